@@ -1,9 +1,8 @@
 ghost use Rattle.std.specs.Prelude.{◌≡◌, IfOk};
 
+use crate::refusal::Memory;
 use std::alloc::Global;
 use std::marker::Model;
-
-use crate::refusal::Memory;
 
 /// A `Box` that contracts see as the value in it, for types that lead back to themselves.
 #[derive(Debug, Drop)]

@@ -1,5 +1,8 @@
-ghost use Rattle.std.specs.Prelude.{◌≡◌, [], ◌∷◌, ◌++◌, length, ◌↔◌, IsTrue, IfErr, OnOk, OnErr};
+ghost use Rattle.std.specs.Prelude.{◌≡◌, [], ◌∷◌, ◌++◌, ◌<◌, length, slice_get, slice_set, ◌↔◌, IsTrue, Some, IfErr, OnOk, OnErr, MatchOption};
+ghost use Rattle.std.specs.Option.{option_copied};
+ghost use Rattle.std.specs.Borrow.{sem};
 
+use crate::refusal::Memory;
 use std::alloc::Global;
 use std::marker::Model;
 
@@ -21,6 +24,8 @@ impl<T> Model for List<T> {
 }
 
 impl<T> List<T> {
+    ghost use Rattle.ltt_base.specs.Lending.{LendsItem};
+
     /// A list of no items, which takes no memory.
     pub fn new(alloc: Global) -> List<T>
         ensures { result ≡ [] }
@@ -28,6 +33,21 @@ impl<T> List<T> {
         List {
             items: Vec::new(alloc),
         }
+    }
+
+    /// The items of a `Vec`, which is not copied.
+    pub fn from_vec(items: Vec<T>) -> List<T>
+        ensures { result ≡ items.items }
+    {
+        List { items }
+    }
+
+    /// The items as a `Vec`, which is not copied.
+    pub fn into_vec(self) -> Vec<T>
+        ensures { result.items ≡ self }
+    {
+        let List { items } = self;
+        items
     }
 
     /// Adds an item behind the last. Without memory the list stays as it was, and the item comes back.
@@ -61,5 +81,63 @@ impl<T> List<T> {
         ensures { IsTrue result ↔ (self.now ≡ []) }
     {
         self.items.is_empty()
+    }
+
+    /// The item at a place, counted from 0.
+    pub fn get(&self, at: usize) -> Option<&T>
+        ensures { option_copied result ≡ slice_get self.now at }
+    {
+        self.items.get(at)
+    }
+
+    /// The item at a place, counted from 0, to be changed there.
+    pub fn at_mut(&mut self, at: usize) -> &mut T
+        requires { at < length self.old }
+        ensures* writes_back { sem 𝓛 (LendsItem T.row self.entry at result) }
+        ensures value { slice_get self.old at ≡ Some result.now }
+    {
+        &mut self.items[at]
+    }
+
+    /// Takes the last item off.
+    pub fn pop(&mut self) -> Option<T>
+        ensures { MatchOption result ((self.old ≡ []) × (self.new ≡ [])) (λ last. self.old ≡ self.new ++ last ∷ []) }
+    {
+        self.items.pop()
+    }
+
+    /// Moves the items of another list behind the last. Without memory this list stays as it was, and the other is lost.
+    pub fn append(&mut self, more: List<T>) -> Result<(), Memory>
+    where
+        T: Drop,
+        ensures added { OnOk result (self.new ≡ self.old ++ more) }
+        ensures same { OnErr result (self.new ≡ self.old) }
+    {
+        let List { mut items } = more;
+        match self.items.append(&mut items) {
+            Ok(()) => Ok(()),
+            Err(_) => Err(Memory),
+        }
+    }
+}
+
+impl<T: Drop> List<T> {
+    /// Adds an item behind the last. Without memory the list stays as it was, and the item is dropped.
+    pub fn add(&mut self, item: T) -> Result<(), Memory>
+        ensures added { OnOk result (self.new ≡ self.old ++ item ∷ []) }
+        ensures same { OnErr result (self.new ≡ self.old) }
+    {
+        match self.items.push(item) {
+            Ok(()) => Ok(()),
+            Err(_) => Err(Memory),
+        }
+    }
+
+    /// Puts another item at a place, counted from 0.
+    pub fn set(&mut self, at: usize, item: T)
+        requires { at < length self.old }
+        ensures { self.new ≡ slice_set self.old at item }
+    {
+        self.items[at] = item;
     }
 }

@@ -1,8 +1,7 @@
 ghost use Rattle.std.specs.Prelude.{◌≡◌};
 
-use thiserror::Error;
-
 use crate::text::Text;
+use thiserror::Error;
 
 /// Want of memory.
 #[derive(Debug, Clone, Copy, Error)]
@@ -12,7 +11,7 @@ pub struct Memory;
 /// A place in an input: the number of the file, the line, and the column in bytes, each from 1.
 ///
 /// Line and column are 0 where a refusal speaks of a whole file, and all three where it speaks of no file.
-#[derive(Debug, Clone, Copy)]
+#[derive(Debug, Clone, Copy, PartialEq, Eq)]
 pub struct Place {
     pub file: u32,
     pub line: u32,
@@ -20,7 +19,7 @@ pub struct Place {
 }
 
 /// The codes of refusals. docs/refusals.md says when each comes and which word it has.
-#[derive(Debug, Clone, Copy)]
+#[derive(Debug, Clone, Copy, PartialEq, Eq)]
 pub enum Code {
     /// No token begins at a byte.
     E01,

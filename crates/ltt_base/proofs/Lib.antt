@@ -1,0 +1,4 @@
+pub mod CallerLemmas
+pub mod OutsideLemmas
+pub mod StackLemmas
+pub mod MemoryLemmas
