@@ -1,0 +1,12 @@
+pub mod LengthLemmas
+pub mod EscapeLemmas
+pub mod CaseSplits
+pub mod PlaceLemmas
+pub mod NameLemmas
+pub mod LengthLaws
+pub mod KindLaws
+pub mod GapLemmas
+pub mod ChoiceLaws
+pub mod TextLaws
+pub mod TableLemmas
+pub mod LineLaws
