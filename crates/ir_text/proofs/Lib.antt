@@ -1,0 +1,10 @@
+pub mod SeeingLemmas
+pub mod PartLaws
+pub mod FormLaws
+pub mod StartLaws
+pub mod ReadLaws
+pub mod TokenLaws
+pub mod PlaceLaws
+pub mod LexLaws
+pub mod AnswerLaws
+pub mod NumberLemmas
