@@ -1,0 +1,11 @@
+-- What the public clauses rest on.
+pub mod Pieces
+pub mod Names
+pub mod Numbers
+pub mod Types
+pub mod Constants
+pub mod Instructions
+pub mod Items
+pub mod ModuleText
+-- What private clauses and loops cite besides.
+pub mod Printing

@@ -1,0 +1,160 @@
+// Names, bare where they can be.
+ghost use Rattle.std.specs.Prelude.{◌≡◌, ◌^◌, ◌<◌, ◌≤◌, ◌++◌, length, true, ◌||◌, IsTrue, OnOk};
+ghost use Rattle.std.specs.List.{list_all};
+ghost use Rattle.std.specs.Fmt.{digit_glyph};
+ghost use Rattle.ir_print.specs.Names as Spec;
+
+use ltt_base::{Memory, Text};
+
+/// Adds a name to a text, without its sign: bare where it can be, else between quotes.
+///
+/// Source: LLVM Language Reference, "Identifiers".
+#[tactic(auto, unfolding(crate::specs::Names::name_text))]
+pub fn put_name(line: &mut Text, name: &[u8]) -> Result<(), Memory>
+    ensures { OnOk result (line.new ≡ line.old ++ Spec.name_text name.now) }
+{
+    if needs_no_quotes(name) {
+        line.extend(name)
+    } else {
+        put_quoted(line, name)
+    }
+}
+
+fn needs_no_quotes(name: &[u8]) -> bool
+    ensures { result ≡ (Spec.is_bare name.now || Spec.is_number name.now) }
+{
+    is_bare(name) || is_number(name)
+}
+
+/// Adds a global's name to a text, behind `@`.
+pub fn put_global(line: &mut Text, name: &[u8]) -> Result<(), Memory>
+    ensures { OnOk result (line.new ≡ line.old ++ Spec.global_text name.now) }
+{
+    line.extend(b"@")?;
+    put_name(line, name)
+}
+
+/// Adds a register's or a block's name to a text, behind `%`.
+pub fn put_local(line: &mut Text, name: &[u8]) -> Result<(), Memory>
+    ensures { OnOk result (line.new ≡ line.old ++ Spec.local_text name.now) }
+{
+    line.extend(b"%")?;
+    put_name(line, name)
+}
+
+/// Adds bytes to a text, between quotes and with escapes.
+///
+/// Source: LLVM Language Reference, "String constants".
+pub fn put_quoted(line: &mut Text, text: &[u8]) -> Result<(), Memory>
+    ensures { OnOk result (line.new ≡ line.old ++ Spec.quoted text.now) }
+{
+    line.extend(b"\"")?;
+    for byte in text {
+        put_escape(line, *byte)?;
+    }
+    line.extend(b"\"")
+}
+
+fn put_escape(line: &mut Text, byte: u8) -> Result<(), Memory>
+    ensures { OnOk result (line.new ≡ line.old ++ Spec.escape byte) }
+{
+    if is_plain(byte) {
+        line.extend(&[byte])
+    } else {
+        line.extend(&[b'\\', hex_digit(byte / 16), hex_digit(byte % 16)])
+    }
+}
+
+fn hex_digit(digit: u8) -> u8
+    requires { digit < 16 }
+    ensures { result ≡ digit_glyph true digit }
+{
+    if digit < 10 {
+        b'0' + digit
+    } else {
+        b'A' + (digit - 10)
+    }
+}
+
+#[tactic(auto, unfolding(crate::specs::Names::is_plain))]
+fn is_plain(byte: u8) -> bool
+    ensures { result ≡ Spec.is_plain byte }
+{
+    (32..=126).contains(&byte) && byte != b'"' && byte != b'\\'
+}
+
+#[tactic(auto, unfolding(crate::specs::Names::is_digit))]
+fn is_digit(byte: u8) -> bool
+    ensures { result ≡ Spec.is_digit byte }
+{
+    b'0' <= byte && byte <= b'9'
+}
+
+#[tactic(auto, unfolding(crate::specs::Names::is_name_start))]
+fn is_name_start(byte: u8) -> bool
+    ensures { result ≡ Spec.is_name_start byte }
+{
+    b'A' <= byte && byte <= b'Z'
+        || b'a' <= byte && byte <= b'z'
+        || byte == b'-'
+        || byte == b'$'
+        || byte == b'.'
+        || byte == b'_'
+}
+
+#[tactic(auto, unfolding(crate::specs::Names::is_name_byte))]
+fn is_name_byte(byte: u8) -> bool
+    ensures { result ≡ Spec.is_name_byte byte }
+{
+    is_name_start(byte) || is_digit(byte)
+}
+
+#[tactic(auto, unfolding(crate::specs::Names::is_bare))]
+fn is_bare(name: &[u8]) -> bool
+    ensures { result ≡ Spec.is_bare name.now }
+{
+    !name.is_empty() && is_name_start(name[0]) && all_name_bytes(name)
+}
+
+fn all_name_bytes(name: &[u8]) -> bool
+    ensures { result ≡ list_all Spec.is_name_byte name.now }
+{
+    name.iter().all(|byte| is_name_byte(*byte))
+}
+
+fn all_digits(name: &[u8]) -> bool
+    ensures { result ≡ list_all Spec.is_digit name.now }
+{
+    name.iter().all(|byte| is_digit(*byte))
+}
+
+#[tactic(auto, unfolding(crate::specs::Names::is_decimal, crate::specs::Names::is_digit))]
+fn is_decimal(name: &[u8]) -> bool
+    ensures { result ≡ Spec.is_decimal name.now }
+{
+    match name {
+        [] => false,
+        [digit] => is_digit(*digit),
+        [first, ..] => *first != b'0' && all_digits(name),
+    }
+}
+
+#[tactic(auto, unfolding(crate::specs::Names::is_number))]
+fn is_number(name: &[u8]) -> bool
+    ensures { result ≡ Spec.is_number name.now }
+{
+    is_decimal(name) && name.len() <= 10 && value_of(name) < 4_294_967_296
+}
+
+#[tactic(auto, unfolding(crate::specs::Names::is_decimal, crate::specs::Names::is_digit))]
+fn value_of(digits: &[u8]) -> u64
+    requires few { length digits.now ≤ 10 }
+    requires all { IsTrue (Spec.is_decimal digits.now) }
+    ensures { result ≡ Spec.value_of digits.now }
+{
+    let mut value = 0;
+    for digit in digits {
+        value = value * 10 + u64::from(*digit - b'0');
+    }
+    value
+}
