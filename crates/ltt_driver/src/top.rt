@@ -1,0 +1,40 @@
+ghost use Rattle.std.specs.Prelude.{◌≡◌, ℕ, List, map, string_bytes};
+ghost use Rattle.ltt_base.specs.Status.{StatusMeans};
+ghost use Rattle.ltt_driver.specs.Asked.{NoForm, TooManyFiles, asked, AsksFor, HasForm};
+ghost use Rattle.ltt_driver.specs.Outcome.{IsDue};
+
+use crate::lines::usage_line;
+use crate::lower::lower;
+use crate::telling::say;
+use ltt_base::{Files, Sink};
+use std::alloc::Global;
+
+/// A call of `ltt`: does what the words ask, and answers the status of the process.
+pub fn ltt<F: Files, O: Sink, E: Sink>(
+    alloc: Global,
+    words: &[String],
+    files: &mut F,
+    out: &mut O,
+    err: &mut E,
+) -> u8
+    ensures means { StatusMeans
+        (IsDue (asked (map string_bytes words.now)) (F.held files.old))
+        (AsksFor (asked (map string_bytes words.now)))
+        (HasForm (asked (map string_bytes words.now)))
+        (record { out = O.taken out.old; out_faults = O.faults out.old; err = E.taken err.old; err_faults = E.faults err.old; read_faults = F.faults files.old })
+        (record { out = O.taken out.new; out_faults = O.faults out.new; err = E.taken err.new; err_faults = E.faults err.new; read_faults = F.faults files.new })
+        result }
+
+    // such words select no file, and nothing is written
+    ensures no_form { asked (map string_bytes words.now) ≡ NoForm → (files.new ≡ files.old) × (out.new ≡ out.old) }
+    ensures many_files { asked (map string_bytes words.now) ≡ TooManyFiles → (files.new ≡ files.old) × (out.new ≡ out.old) }
+{
+    let [command, names @ ..] = words else {
+        return say(2, usage_line(), err);
+    };
+    if command.as_bytes() == b"lower".as_slice() {
+        lower(alloc, names, files, out, err)
+    } else {
+        say(2, usage_line(), err)
+    }
+}
