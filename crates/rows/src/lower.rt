@@ -1,0 +1,136 @@
+// The command `lower`.
+use ltt_base::{MemFiles, MemSink};
+use ltt_driver::ltt;
+use std::alloc::{AllocError, Global};
+use std::test::Fail;
+
+/// A variable with an entry in its middle, and a test for the entry's identifier.
+const THIN: &str = "\
+@a = constant [4 x i64] zeroinitializer, !type !0
+define i1 @t(ptr %p) {
+  %r = call i1 @llvm.type.test(ptr %p, metadata !\"T\")
+  ret i1 %r
+}
+declare i1 @llvm.type.test(ptr, metadata)
+!0 = !{i64 16, !\"T\"}
+";
+
+const THIN_LOWERED: &str = "\
+@.ltt.gv.0 = private constant { [4 x i64] } zeroinitializer, align 8
+define i1 @t(ptr %p) {
+0:
+  %r = icmp eq ptr %p, getelementptr (i8, ptr @.ltt.gv.0, i64 16)
+  ret i1 %r
+}
+";
+
+/// The same with the entry at the variable's end, which the combined variable has to reach.
+const AT_THE_END: &str = "\
+@a = constant [4 x i64] zeroinitializer, !type !0
+define i1 @t(ptr %p) {
+  %r = call i1 @llvm.type.test(ptr %p, metadata !\"T\")
+  ret i1 %r
+}
+declare i1 @llvm.type.test(ptr, metadata)
+!0 = !{i64 32, !\"T\"}
+";
+
+const AT_THE_END_LOWERED: &str = "\
+@.ltt.gv.0 = private constant { [4 x i64], [32 x i8] } zeroinitializer, align 8
+define i1 @t(ptr %p) {
+0:
+  %r = icmp eq ptr %p, getelementptr (i8, ptr @.ltt.gv.0, i64 32)
+  ret i1 %r
+}
+";
+
+const USAGE: &str =
+    "usage: ltt lower|show|summary|check FILE... | reprint FILE | run N ENTRY ANSWERS FILE... | place BASE N ENTRY ANSWERS FILE... | gen SEED CLASSES\n";
+
+/// The words of a call.
+fn words(alloc: Global, given: &[&str]) -> Result<Vec<String>, AllocError> {
+    let mut words = Vec::new(alloc);
+    for word in given {
+        words.push(String::from_str(alloc, word)?)?;
+    }
+    Ok(words)
+}
+
+#[test]
+fn a_file_is_lowered_or_refused(rt: HostRuntime) -> Result<(), Fail> {
+    let words = words(rt.alloc(), &["lower", "a.ll"])?;
+    for (text, status, lowered, line) in [
+        (THIN, 0, THIN_LOWERED, ""),
+        (AT_THE_END, 0, AT_THE_END_LOWERED, ""),
+        ("", 1, "", "ltt: E07 a.ll:1:1: form\n"),
+        ("@a = global i32 0 ?", 1, "", "ltt: E01 a.ll:1:19: 0x3F\n"),
+        ("@a = global i32 0", 1, "", "ltt: E02 a.ll:1:1: @a\n"),
+    ] {
+        let mut files = MemFiles::new(rt.alloc());
+        files.add("a.ll", text.as_bytes())?;
+        let mut out = MemSink::new(rt.alloc(), 500, 500)?;
+        let mut err = MemSink::new(rt.alloc(), 500, 500)?;
+        let answer = ltt(rt.alloc(), words.as_slice(), &mut files, &mut out, &mut err);
+        assert_eq!(rt; answer, status, "{text}");
+        assert_eq!(rt; out.taken(), lowered.as_bytes(), "{text}");
+        assert_eq!(rt; err.taken(), line.as_bytes(), "{text}");
+    }
+    Ok(())
+}
+
+#[test]
+fn words_without_one_file_are_told(rt: HostRuntime) -> Result<(), Fail> {
+    for (given, status, line) in [
+        (["lower"].as_slice(), 2, USAGE),
+        (
+            ["lower", "a.ll", "a.ll"].as_slice(),
+            6,
+            "ltt: E12 -:0:0: files\n",
+        ),
+    ] {
+        let words = words(rt.alloc(), given)?;
+        let mut files = MemFiles::new(rt.alloc());
+        files.add("a.ll", THIN.as_bytes())?;
+        let mut out = MemSink::new(rt.alloc(), 500, 500)?;
+        let mut err = MemSink::new(rt.alloc(), 500, 500)?;
+        let answer = ltt(rt.alloc(), words.as_slice(), &mut files, &mut out, &mut err);
+        assert_eq!(rt; answer, status, "{line}");
+        assert_eq!(rt; out.taken(), b"".as_slice(), "{line}");
+        assert_eq!(rt; err.taken(), line.as_bytes(), "{line}");
+    }
+    Ok(())
+}
+
+#[test]
+fn a_file_that_stops_in_the_middle_writes_nothing(rt: HostRuntime) -> Result<(), Fail> {
+    let words = words(rt.alloc(), &["lower", "a.ll"])?;
+    let mut files = MemFiles::new(rt.alloc());
+    files.add("a.ll", THIN.as_bytes())?;
+    files.fail_read(2)?;
+    let mut out = MemSink::new(rt.alloc(), 500, 500)?;
+    let mut err = MemSink::new(rt.alloc(), 500, 500)?;
+    assert_eq!(rt;
+        ltt(rt.alloc(), words.as_slice(), &mut files, &mut out, &mut err),
+        3
+    );
+    assert_eq!(rt; out.taken(), b"".as_slice());
+    assert_eq!(rt; err.taken(), b"ltt: read fault: a.ll\n".as_slice());
+    Ok(())
+}
+
+#[test]
+fn an_output_that_stops_in_the_middle_has_a_prefix(rt: HostRuntime) -> Result<(), Fail> {
+    let words = words(rt.alloc(), &["lower", "a.ll"])?;
+    let mut files = MemFiles::new(rt.alloc());
+    files.add("a.ll", THIN.as_bytes())?;
+    let mut out = MemSink::new(rt.alloc(), 500, 16)?;
+    out.fail_write(2)?;
+    let mut err = MemSink::new(rt.alloc(), 500, 500)?;
+    assert_eq!(rt;
+        ltt(rt.alloc(), words.as_slice(), &mut files, &mut out, &mut err),
+        4
+    );
+    assert_eq!(rt; out.taken(), b"@.ltt.gv.0 = pri".as_slice());
+    assert_eq!(rt; err.taken(), b"ltt: write fault\n".as_slice());
+    Ok(())
+}
