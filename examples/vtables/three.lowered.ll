@@ -1,0 +1,8 @@
+@.ltt.gv.0 = private constant { [4 x i64] } zeroinitializer, align 8
+@.ltt.gv.1 = private constant { [5 x i64], [24 x i8] } zeroinitializer, align 8
+@.ltt.gv.2 = private constant { [9 x i64], [24 x i8] } zeroinitializer, align 8
+define i1 @is_circle(ptr %vtable) {
+0:
+  %answer = icmp eq ptr %vtable, getelementptr (i8, ptr @.ltt.gv.1, i64 16)
+  ret i1 %answer
+}
