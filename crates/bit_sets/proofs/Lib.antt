@@ -1,0 +1,15 @@
+pub mod RotationLemmas
+pub mod WordLemmas
+pub mod NumberLemmas
+pub mod MarkLemmas
+pub mod SetLemmas
+pub mod ExactLemmas
+pub mod ShapeLemmas
+pub mod OrderedLemmas
+pub mod FillingLemmas
+pub mod JoinLemmas
+pub mod LanesLemmas
+pub mod FitLemmas
+pub mod LaneLaws
+pub mod SpotLaws
+pub mod KindExamples

@@ -1,0 +1,15 @@
+pub mod OrderedLemmas
+pub mod PadLemmas
+pub mod FragmentLemmas
+pub mod PlacingLemmas
+pub mod WithinLemmas
+pub mod ExampleLemmas
+pub mod OnceLemmas
+pub mod ApartLaws
+pub mod HomeLaws
+pub mod TogetherLaws
+pub mod ListedLaws
+pub mod OverlapLaws
+pub mod OwnerLaws
+pub mod OwnsLaws
+pub mod OwnerSteps

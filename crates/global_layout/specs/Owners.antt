@@ -1,0 +1,42 @@
+-- Fragments under rising numbers, and for each object the number of the fragment that holds it.
+use Rattle.std.specs.Prelude.{◌≡◌, ℕ, ◌<◌, ◌≤◌, Bool, false, not, List, ◌==◌, All, Option, Some, None, is_some, if◌then◌else◌}
+use Rattle.std.specs.List.{list_any, filter, concat}
+use Rattle.std.specs.List.Sorted.{IsStrictlySortedBy}
+use Rattle.std.specs.Ordering.{nat_cmp}
+use Rattle.std.specs.Map.{keys_of, values_of}
+use Rattle.global_layout.specs.Fragments.{is_among, is_held}
+
+-- whether an object's number is this one
+abbrev pub is_of : Option ℕ → ℕ → Bool
+is_of None number = false
+is_of (Some other) number = other == number
+
+pub record Owns (entries : List (ℕ × List ℕ)) (owner : ℕ → Option ℕ) (next : ℕ) : Type 0 where
+  -- a fragment holds the objects of its number
+  pub of : All (λ e. (o : ℕ) → is_among e.1 o ≡ is_of (owner o) e.0) entries
+  -- an object has a number exactly if a fragment holds it
+  pub held : (o : ℕ) → is_held (values_of entries) o ≡ is_some (owner o)
+  -- numbers are below the next
+  pub past : (o n : ℕ) → next ≤ n → is_of (owner o) n ≡ false
+  pub low : All (λ e. e.0 < next) entries
+  pub rising : IsStrictlySortedBy nat_cmp (keys_of entries)
+
+-- whether one of the objects has this number
+abbrev pub is_root : (ℕ → Option ℕ) → List ℕ → ℕ → Bool
+is_root owner objects number = list_any (λ o. is_of (owner o) number) objects
+
+-- the fragments whose number passes, joined in their order
+abbrev pub joined : (ℕ → Bool) → List (ℕ × List ℕ) → List ℕ
+joined p entries = concat (values_of (filter (λ e. p e.0) entries))
+
+-- the other fragments
+abbrev pub rest : (ℕ → Bool) → List (ℕ × List ℕ) → List (ℕ × List ℕ)
+rest p entries = filter (λ e. not (p e.0)) entries
+
+-- the objects that have no number
+abbrev pub unowned : (ℕ → Option ℕ) → List ℕ → List ℕ
+unowned owner objects = filter (λ o. not (is_some (owner o))) objects
+
+-- these objects have this number, the others theirs
+abbrev pub owner_more : (ℕ → Option ℕ) → List ℕ → ℕ → ℕ → Option ℕ
+owner_more owner objects number o = if is_among objects o then Some number else owner o
