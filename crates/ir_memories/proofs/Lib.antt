@@ -1,0 +1,10 @@
+pub mod StatedLemmas
+pub mod StatedLaws
+pub mod MoveLaws
+pub mod TestLaws
+pub mod AddressLaws
+pub mod CellLemmas
+pub mod StoreLaws
+pub mod NumberStoreLaws
+pub mod KeepLaws
+pub mod NumberKeepLaws

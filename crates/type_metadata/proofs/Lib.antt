@@ -1,0 +1,6 @@
+pub mod SameLaws
+pub mod DistinctLaws
+pub mod RowLaws
+pub mod CarrierLaws
+pub mod DenotedLaws
+pub mod ExampleLaws

@@ -1,0 +1,9 @@
+use Rattle.std.proofs.Common.{◌≡◌, drop}
+use Rattle.type_metadata.specs.Items.{variables_from}
+use Rattle.type_metadata.specs.Denoted.{first, is_called}
+use Rattle.type_metadata.proofs.denoting.first_variable.Given as goal
+
+abbrev pub invariant-loop-index : goal.invariant-loop-index
+invariant-loop-index l =
+    first (is_called l.linkage l.name) (variables_from l.file l.index (drop l.index l.variables))
+    ≡ first (is_called l.linkage l.name) (variables_from l.file 0 l.variables)

@@ -1,0 +1,19 @@
+//! Type identifiers and the objects that carry them.
+#![tactic(auto)]
+
+mod denoting;
+mod extents;
+mod items;
+mod laws;
+mod marks;
+mod objects;
+#[cfg(test)]
+mod tests;
+mod types;
+
+pub use denoting::{denoted_among, denotes, first_called};
+pub use extents::extent_of;
+pub use items::{Item, items_of};
+pub use laws::{carriers_carry, identifiers_are_carried, some_definition_carries};
+pub use objects::{Carrier, Denoted, Object, is_same_object};
+pub use types::{Types, collect};
