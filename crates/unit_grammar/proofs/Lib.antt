@@ -1,0 +1,12 @@
+pub mod BoolLemmas
+pub mod SignLaws
+pub mod ExactLaws
+pub mod EnclosedLaws
+pub mod ManyLaws
+pub mod GrammarLaws
+pub mod LongestLaws
+pub mod SeeingLemmas
+pub mod LoopLemmas
+pub mod AnswerLaws
+pub mod CoverLaws
+pub mod ListLemmas

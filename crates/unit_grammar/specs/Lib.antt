@@ -1,0 +1,13 @@
+pub mod Pieces
+pub mod Signs
+pub mod Grammar
+pub mod Readers
+pub mod Beginnings
+pub mod Laws
+pub mod Exact
+pub mod Longest
+pub mod Seeing
+pub mod Plain
+pub mod Answers
+pub mod Attachments
+pub mod Covers
