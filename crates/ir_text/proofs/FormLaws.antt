@@ -7,13 +7,14 @@ use Rattle.ir_text.specs.Globals.{attach_of, variable_of, IsAttach, IsVariable}
 use Rattle.ir_text.specs.GlobalReaders.{words, attach, variable}
 use Rattle.ir_text.specs.Functions.{define_of, declare_of, IsDefine, IsDeclare, IsClose}
 use Rattle.ir_text.specs.FunctionReaders.{define, declare, close}
-use Rattle.ir_text.specs.Calls.{test_of, IsTest}
-use Rattle.ir_text.specs.CallReaders.{test}
+use Rattle.ir_text.specs.Calls.{args_of, test_of, IsIdentifier, IsArguments, IsTest}
+use Rattle.ir_text.specs.CallReaders.{identifier, arguments, test}
 use Rattle.ir_text.specs.Instructions.{return_of, IsReturn}
 use Rattle.ir_text.specs.InstructionReaders.{returned}
 use Rattle.ir_text.specs.Metadata.{entry_of, IsEntry}
 use Rattle.ir_text.specs.MetadataReaders.{entry}
 use Rattle.ir_text.proofs.PartLaws.{Exact, token_exact, sign_exact, then_exact, before_exact, mapped_exact}
+use Rattle.ir_text.proofs.PointerLaws.{params_exact, pointer_exact}
 
 pub words_exact : Exact IsWords words
 unfolding words
@@ -48,10 +49,8 @@ define_exact =
     (before_exact (word (codes "i1")) _ _
     (then_exact _ _ _ _ (token_exact global)
     (before_exact (mark (codes "(")) _ _
-    (before_exact (word (codes "ptr")) _ _
-    (then_exact _ _ _ _ (token_exact local)
-    (before_exact (mark (codes ")")) _ _
-    (sign_exact (mark (codes "{"))))))))))
+    (then_exact _ _ _ _ params_exact
+    (sign_exact (mark (codes "{"))))))))
 
 pub declare_exact : Exact IsDeclare declare
 unfolding declare
@@ -70,6 +69,20 @@ pub close_exact : Exact IsClose close
 unfolding close
 close_exact = mapped_exact (λ _. CloseForm) _ _ (sign_exact (mark (codes "}")))
 
+identifier_exact : Exact IsIdentifier identifier
+unfolding identifier
+identifier_exact =
+    mapped_exact (λ x. x.0) _ _
+    (before_exact (mark (codes ",")) _ _
+    (before_exact (word (codes "metadata")) _ _
+    (then_exact _ _ _ _ (token_exact string)
+    (sign_exact (mark (codes ")"))))))
+
+arguments_exact : Exact IsArguments arguments
+unfolding arguments
+arguments_exact =
+    mapped_exact args_of _ _ (before_exact (word (codes "ptr")) _ _ (then_exact _ _ _ _ pointer_exact identifier_exact))
+
 pub test_exact : Exact IsTest test
 unfolding test
 test_exact =
@@ -79,13 +92,7 @@ test_exact =
     (before_exact (word (codes "call")) _ _
     (before_exact (word (codes "i1")) _ _
     (then_exact _ _ _ _ (token_exact (function (codes "llvm.type.test")))
-    (before_exact (mark (codes "(")) _ _
-    (before_exact (word (codes "ptr")) _ _
-    (then_exact _ _ _ _ (token_exact local)
-    (before_exact (mark (codes ",")) _ _
-    (before_exact (word (codes "metadata")) _ _
-    (then_exact _ _ _ _ (token_exact string)
-    (sign_exact (mark (codes ")"))))))))))))))
+    (before_exact (mark (codes "(")) _ _ arguments_exact))))))
 
 pub returned_exact : Exact IsReturn returned
 unfolding returned

@@ -1,5 +1,7 @@
 pub mod SeeingLemmas
 pub mod PartLaws
+pub mod ChoiceLaws
+pub mod PointerLaws
 pub mod FormLaws
 pub mod StartLaws
 pub mod ReadLaws

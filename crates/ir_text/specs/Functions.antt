@@ -1,6 +1,6 @@
 -- Heads of functions, and the close.
 --
--- Source: LLVM Language Reference, "Functions". Differs: these two shapes of a head alone.
+-- Source: LLVM Language Reference, "Functions". Differs: these three shapes of a head alone.
 use Rattle.std.specs.Prelude.{ℕ, false, List, [], ◌∷◌, Option, Some, None, codes}
 use Rattle.ir_values.specs.declared.types.Ty.{Ty}
 use Rattle.ir_values.specs.declared.types.Ty.TheVariants.{Int, Ptr, Left}
@@ -9,7 +9,7 @@ use Rattle.ir_values.specs.declared.units.Param.{Param}
 use Rattle.ir_values.specs.declared.units.Head.{Head}
 use Rattle.ir_values.specs.declared.units.Form.{Form}
 use Rattle.ir_values.specs.declared.units.Form.TheVariants.{DeclareForm, DefineForm, CloseForm}
-use Rattle.ir_text.specs.Parts.{Part, IsToken, IsSign, IsMapped, ◌⋆◌, ◌▹◌}
+use Rattle.ir_text.specs.Parts.{Part, IsToken, IsSign, IsMapped, ◌⋆◌, ◌▹◌, ◌or◌}
 use Rattle.ir_text.specs.Tokens.{mark, word, global, local, function}
 
 -- a parameter with no other words
@@ -21,15 +21,23 @@ abbrev pub test_head : List ℕ → List Param → Head
 test_head name params =
     record { name = name; linkage = None; result = Int W1; params = params; dots = false; left = []; attached = [] }
 
-abbrev pub define_of : List ℕ × (List ℕ × Unit {0}) → Form
-define_of x = DefineForm (test_head x.0 (plain Ptr (Some x.1.0) ∷ []))
+abbrev pub one_of : List ℕ × Unit {0} → List Param
+one_of x = plain Ptr (Some x.0) ∷ []
 
--- `define i1 @F(ptr %P) {`
+-- `)`, or `ptr %P)`: the parameters and the end of their list
+abbrev pub IsParams : Part (List Param)
+IsParams =
+    IsMapped (λ _. []) (IsSign (mark (codes ")")))
+    or IsMapped one_of (word (codes "ptr") ▹ IsToken local ⋆ IsSign (mark (codes ")")))
+
+abbrev pub define_of : List ℕ × (List Param × Unit {0}) → Form
+define_of x = DefineForm (test_head x.0 x.1.0)
+
+-- `define i1 @F() {` or `define i1 @F(ptr %P) {`
 abbrev pub IsDefine : Part Form
 IsDefine =
     IsMapped define_of
-    (word (codes "define") ▹ word (codes "i1") ▹ IsToken global ⋆ mark (codes "(") ▹ word (codes "ptr") ▹ IsToken local
-    ⋆ mark (codes ")") ▹ IsSign (mark (codes "{")))
+    (word (codes "define") ▹ word (codes "i1") ▹ IsToken global ⋆ mark (codes "(") ▹ IsParams ⋆ IsSign (mark (codes "{")))
 
 abbrev pub declare_of : List ℕ × Unit {0} → Form
 declare_of x = DeclareForm (test_head x.0 (plain Ptr None ∷ plain (Left (codes "metadata")) None ∷ []))

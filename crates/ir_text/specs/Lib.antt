@@ -6,6 +6,7 @@ pub mod Types
 pub mod Globals
 pub mod Functions
 pub mod Instructions
+pub mod Pointers
 pub mod Calls
 pub mod Metadata
 pub mod Units
@@ -18,6 +19,7 @@ pub mod Seeing
 pub mod GlobalReaders
 pub mod FunctionReaders
 pub mod InstructionReaders
+pub mod PointerReaders
 pub mod CallReaders
 pub mod MetadataReaders
 pub mod UnitReaders

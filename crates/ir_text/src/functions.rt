@@ -36,7 +36,40 @@ fn test_head(alloc: Global, name: Text, params: List<Param>) -> Head
     }
 }
 
-/// `define i1 @F(ptr %P) {`.
+/// `)`.
+#[tactic(auto, unfolding(crate::specs::FunctionReaders::no_params))]
+fn no_params(alloc: Global, input: &Input<'_>, at: usize) -> Result<(List<Param>, usize), Stop>
+    ensures { Gives (tokens input.now) result (spec.no_params (drop at (tokens input.now))) }
+{
+    let at = mark(input, at, b")")?;
+    Ok((List::new(alloc), at))
+}
+
+/// `ptr %P)`.
+#[tactic(auto, unfolding(crate::specs::FunctionReaders::one_param))]
+fn one_param(alloc: Global, input: &Input<'_>, at: usize) -> Result<(List<Param>, usize), Stop>
+    ensures { Gives (tokens input.now) result (spec.one_param (drop at (tokens input.now))) }
+{
+    let at = word(input, at, b"ptr")?;
+    let (pointer, at) = local(alloc, input, at)?;
+    let at = mark(input, at, b")")?;
+    let params = one(alloc, plain(alloc, Ty::Ptr, Some(pointer)))?;
+    Ok((params, at))
+}
+
+/// `)` or `ptr %P)`.
+#[tactic(auto, unfolding(crate::specs::FunctionReaders::params))]
+fn params(alloc: Global, input: &Input<'_>, at: usize) -> Result<(List<Param>, usize), Stop>
+    ensures { Gives (tokens input.now) result (spec.params (drop at (tokens input.now))) }
+{
+    match no_params(alloc, input, at) {
+        Err(Stop::Absent) => {}
+        found => return found,
+    }
+    one_param(alloc, input, at)
+}
+
+/// `define i1 @F() {` or `define i1 @F(ptr %P) {`.
 #[tactic(auto, unfolding(crate::specs::FunctionReaders::define))]
 pub fn define(alloc: Global, input: &Input<'_>, at: usize) -> Result<(Form, usize), Stop>
     ensures { Gives (tokens input.now) result (spec.define (drop at (tokens input.now))) }
@@ -45,11 +78,8 @@ pub fn define(alloc: Global, input: &Input<'_>, at: usize) -> Result<(Form, usiz
     let at = word(input, at, b"i1")?;
     let (name, at) = global(alloc, input, at)?;
     let at = mark(input, at, b"(")?;
-    let at = word(input, at, b"ptr")?;
-    let (pointer, at) = local(alloc, input, at)?;
-    let at = mark(input, at, b")")?;
+    let (params, at) = params(alloc, input, at)?;
     let at = mark(input, at, b"{")?;
-    let params = one(alloc, plain(alloc, Ty::Ptr, Some(pointer)))?;
     let head = test_head(alloc, name, params);
     Ok((Form::DefineForm { head }, at))
 }

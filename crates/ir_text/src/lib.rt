@@ -13,6 +13,7 @@ mod lexing;
 mod lists;
 mod metadata;
 mod numbers;
+mod pointers;
 mod reading;
 mod refusals;
 mod seen;

@@ -280,6 +280,62 @@ fn each_form_is_read(rt: HostRuntime) -> Result<(), Fail> {
     Ok(())
 }
 
+const ADDRESSES: &[u8] =
+    b"define i1 @m() {\n%r = call i1 @llvm.type.test(ptr @v, metadata !\"T\")\n%s = call i1 @llvm.type.test(ptr getelementptr (i8, ptr @v, i64 16), metadata !\"T\")";
+
+fn is_bare_define(form: &Form, name: &[u8]) -> bool {
+    match form {
+        Form::DefineForm { head } => is_head(head, name) && head.params.is_empty(),
+        _ => false,
+    }
+}
+
+fn tested(form: &Form) -> Option<&Operand> {
+    match form {
+        Form::CallForm { args, .. } => match args.items() {
+            [Arg::Value { value, .. }, _] => Some(value),
+            _ => None,
+        },
+        _ => None,
+    }
+}
+
+fn is_global(operand: Option<&Operand>, name: &[u8]) -> bool {
+    match operand {
+        Some(found) => is_callee(found, name),
+        None => false,
+    }
+}
+
+fn is_index(index: &List<Operand>, offset: u64) -> bool {
+    match index.items() {
+        [Operand::Const(Const::Typed(ty, number))] => {
+            is_int(ty, Width::W64) && is_number(number.get(), offset)
+        }
+        _ => false,
+    }
+}
+
+fn is_moved(operand: Option<&Operand>, name: &[u8], offset: u64) -> bool {
+    match operand {
+        Some(Operand::Const(Const::Gep(ty, base, index))) => {
+            is_int(ty, Width::W8) && is_address(base.get(), name) && is_index(index, offset)
+        }
+        _ => false,
+    }
+}
+
+#[test]
+fn a_function_without_parameters_tests_an_address(rt: HostRuntime) -> Result<(), Fail> {
+    let units = read_units(rt.alloc(), ADDRESSES, 1)?;
+    let items = units.items();
+    assert_eq!(rt; items.len(), 3);
+    assert!(rt; is_bare_define(&items[0].value.form, b"m"));
+    assert!(rt; is_global(tested(&items[1].value.form), b"v"));
+    assert!(rt; is_moved(tested(&items[2].value.form), b"v", 16));
+    Ok(())
+}
+
 #[test]
 fn blanks_and_comments_are_no_units(rt: HostRuntime) -> Result<(), Fail> {
     assert!(rt; read_units(rt.alloc(), b"", 1)?.is_empty());
@@ -338,6 +394,16 @@ fn a_token_at_which_no_unit_begins_is_refused(rt: HostRuntime) {
             1,
             1,
             b"declare"
+        )
+    );
+    assert!(rt;
+        is_refused(
+            alloc,
+            b"define i1 @f(ptr %p, ptr %q) {",
+            Code::E02,
+            1,
+            1,
+            b"define"
         )
     );
     assert!(rt; is_refused(alloc, b"ret i1 %r %s", Code::E02, 1, 11, b"%s"));

@@ -7,13 +7,13 @@ use Rattle.ltt_base.specs.declared.refusal.Fault.TheVariants.{Refused, Memory}
 use Rattle.ir_values.specs.declared.modules.Module.{Module}
 use Rattle.ir_values.specs.declared.units.Unit.{Unit as TheUnit}
 use Rattle.ir_text.specs.Answers as reader
-use Rattle.ltt_driver.specs.declared.thin.Thin.{Thin}
-use Rattle.ltt_driver.specs.Thin.{IsThin, module_of}
-use Rattle.ltt_driver.specs.Rewriting.{rewritten}
-use Rattle.ltt_driver.specs.Placement.{Placement, IsPlaced}
-use Rattle.ltt_driver.specs.TestAt.{IsExact}
+use Rattle.thin_files.specs.declared.thin.Thin.{Thin}
+use Rattle.thin_files.specs.Thin.{IsThin, module_of}
+use Rattle.test_lowering.specs.Rewriting.{rewritten}
+use Rattle.ir_memories.specs.Placement.{Placement, IsPlaced}
 use Rattle.ltt_driver.specs.Files.{IsLoweredTo, IsNotThin, IsRefused, RefusesForm}
-use Rattle.ltt_driver.proofs.ExactLaws.{exact}
+use Rattle.test_lowering.proofs.ExactLaws.{exact}
+use Rattle.simulation.proofs.SimulationLaws.{simulated}
 
 -- a fault of the reader
 pub unread : (text : List ℕ) (fault : Fault) (refusal : Refusal)
@@ -41,4 +41,5 @@ lowered text units thin m read is made = record {
   is = is;
   made = made;
   exact = λ p placed. exact thin is.allowed p (subst (λ o. IsPlaced o p) made placed);
+  simulated = simulated thin is.allowed;
 }

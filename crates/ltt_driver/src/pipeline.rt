@@ -4,12 +4,12 @@ ghost use Rattle.ltt_base.specs.declared.refusal.Refusal.{Refusal};
 ghost use Rattle.ltt_base.specs.declared.refusal.Fault.{Fault};
 ghost use Rattle.ltt_driver.specs.Files.{text_limit, IsLoweredTo, IsRefused, RefusesForm};
 
-use crate::rewriting::lower_thin;
-use crate::thin::thin_of;
 use ir_text::read_units;
 use ir_values::Module;
 use ltt_base::{Code, Fault, Memory, Place, Refusal, Text};
 use std::alloc::Global;
+use test_lowering::lower_thin;
+use thin_files::thin_of;
 
 /// The output module of a file's text, or the refusal of the text. Places have the file 1.
 pub fn lower_text(alloc: Global, text: &[u8]) -> Result<Module, Fault>

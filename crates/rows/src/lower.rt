@@ -44,6 +44,123 @@ define i1 @t(ptr %p) {
 }
 ";
 
+/// The same with a second function, which tests the entry's address.
+const WITH_ADDRESS: &str = "\
+@a = constant [4 x i64] zeroinitializer, !type !0
+define i1 @t(ptr %p) {
+  %r = call i1 @llvm.type.test(ptr %p, metadata !\"T\")
+  ret i1 %r
+}
+define i1 @main() {
+  %r = call i1 @llvm.type.test(ptr getelementptr (i8, ptr @a, i64 16), metadata !\"T\")
+  ret i1 %r
+}
+declare i1 @llvm.type.test(ptr, metadata)
+!0 = !{i64 16, !\"T\"}
+";
+
+const WITH_ADDRESS_LOWERED: &str = "\
+@.ltt.gv.0 = private constant { [4 x i64] } zeroinitializer, align 8
+define i1 @t(ptr %p) {
+0:
+  %r = icmp eq ptr %p, getelementptr (i8, ptr @.ltt.gv.0, i64 16)
+  ret i1 %r
+}
+define i1 @main() {
+0:
+  %r = icmp eq ptr getelementptr (i8, ptr @.ltt.gv.0, i64 16), getelementptr (i8, ptr @.ltt.gv.0, i64 16)
+  ret i1 %r
+}
+";
+
+/// A second function that tests the second variable's first byte.
+const WITH_VARIABLE: &str = "\
+@a = constant [1 x i64] zeroinitializer, !type !0
+@b = constant [2 x i64] zeroinitializer, !type !1
+define i1 @t(ptr %p) {
+  %r = call i1 @llvm.type.test(ptr %p, metadata !\"T\")
+  ret i1 %r
+}
+define i1 @main() {
+  %x = call i1 @llvm.type.test(ptr @b, metadata !\"T\")
+  ret i1 %x
+}
+declare i1 @llvm.type.test(ptr, metadata)
+!0 = !{i64 0, !\"T\"}
+!1 = !{i64 8, !\"U\"}
+";
+
+const WITH_VARIABLE_LOWERED: &str = "\
+@.ltt.gv.0 = private constant { [1 x i64] } zeroinitializer, align 8
+@.ltt.gv.1 = private constant { [2 x i64] } zeroinitializer, align 8
+define i1 @t(ptr %p) {
+0:
+  %r = icmp eq ptr %p, @.ltt.gv.0
+  ret i1 %r
+}
+define i1 @main() {
+0:
+  %x = icmp eq ptr @.ltt.gv.1, @.ltt.gv.0
+  ret i1 %x
+}
+";
+
+/// The address is a byte too far away.
+const TOO_FAR: &str = "\
+@a = constant [4 x i64] zeroinitializer, !type !0
+define i1 @t(ptr %p) {
+  %r = call i1 @llvm.type.test(ptr %p, metadata !\"T\")
+  ret i1 %r
+}
+define i1 @main() {
+  %r = call i1 @llvm.type.test(ptr getelementptr (i8, ptr @a, i64 1000001), metadata !\"T\")
+  ret i1 %r
+}
+declare i1 @llvm.type.test(ptr, metadata)
+!0 = !{i64 16, !\"T\"}
+";
+
+/// The second function tests for an identifier that nothing carries.
+const NOT_CARRIED: &str = "\
+@a = constant [4 x i64] zeroinitializer, !type !0
+define i1 @t(ptr %p) {
+  %r = call i1 @llvm.type.test(ptr %p, metadata !\"T\")
+  ret i1 %r
+}
+define i1 @main() {
+  %r = call i1 @llvm.type.test(ptr @a, metadata !\"U\")
+  ret i1 %r
+}
+declare i1 @llvm.type.test(ptr, metadata)
+!0 = !{i64 16, !\"T\"}
+";
+
+/// Both functions have one name.
+const SAME_NAME: &str = "\
+@a = constant [4 x i64] zeroinitializer, !type !0
+define i1 @t(ptr %p) {
+  %r = call i1 @llvm.type.test(ptr %p, metadata !\"T\")
+  ret i1 %r
+}
+define i1 @t() {
+  %r = call i1 @llvm.type.test(ptr @a, metadata !\"T\")
+  ret i1 %r
+}
+declare i1 @llvm.type.test(ptr, metadata)
+!0 = !{i64 16, !\"T\"}
+";
+
+/// A head with two parameters is no unit.
+const TWO_PARAMETERS: &str = "\
+@a = constant [4 x i64] zeroinitializer, !type !0
+define i1 @t(ptr %p, ptr %q) {
+  %r = call i1 @llvm.type.test(ptr %p, metadata !\"T\")
+  ret i1 %r
+}
+declare i1 @llvm.type.test(ptr, metadata)
+!0 = !{i64 16, !\"T\"}
+";
+
 const USAGE: &str =
     "usage: ltt lower|show|summary|check FILE... | reprint FILE | run N ENTRY ANSWERS FILE... | place BASE N ENTRY ANSWERS FILE... | gen SEED CLASSES\n";
 
@@ -62,6 +179,12 @@ fn a_file_is_lowered_or_refused(rt: HostRuntime) -> Result<(), Fail> {
     for (text, status, lowered, line) in [
         (THIN, 0, THIN_LOWERED, ""),
         (AT_THE_END, 0, AT_THE_END_LOWERED, ""),
+        (WITH_ADDRESS, 0, WITH_ADDRESS_LOWERED, ""),
+        (WITH_VARIABLE, 0, WITH_VARIABLE_LOWERED, ""),
+        (TOO_FAR, 1, "", "ltt: E07 a.ll:1:1: form\n"),
+        (NOT_CARRIED, 1, "", "ltt: E07 a.ll:1:1: form\n"),
+        (SAME_NAME, 1, "", "ltt: E07 a.ll:1:1: form\n"),
+        (TWO_PARAMETERS, 1, "", "ltt: E02 a.ll:2:1: define\n"),
         ("", 1, "", "ltt: E07 a.ll:1:1: form\n"),
         ("@a = global i32 0 ?", 1, "", "ltt: E01 a.ll:1:19: 0x3F\n"),
         ("@a = global i32 0", 1, "", "ltt: E02 a.ll:1:1: @a\n"),

@@ -1,8 +1,8 @@
 use Rattle.std.proofs.Common.{◌≡◌, ◌≤◌, sym, subst, ap, ◌∙◌, MatchOption}
 use Rattle.std.specs.Result.{IsErrAnd}
 use Rattle.ltt_base.specs.declared.refusal.Fault.TheVariants.{Refused}
-use Rattle.ltt_driver.specs.declared.thin.Thin.{Thin}
-use Rattle.ltt_driver.specs.Thin.{IsThin}
+use Rattle.thin_files.specs.declared.thin.Thin.{Thin}
+use Rattle.thin_files.specs.Thin.{IsThin}
 use Rattle.ltt_driver.specs.Files.{text_limit}
 use Rattle.ltt_driver.proofs.PipelineLemmas.{unread, not_thin, lowered}
 use Rattle.ltt_driver.proofs.pipeline.lower_text.Goals as goal

@@ -1,7 +1,0 @@
-use Rattle.std.proofs.Common.{◌≡◌, map, take}
-use Rattle.ltt_driver.specs.Thin.{variable_of}
-use Rattle.ltt_driver.specs.Rewriting.{combined_from}
-use Rattle.ltt_driver.proofs.rewriting.combined_variables.Given as goal
-
-abbrev pub invariant-loop-group : goal.invariant-loop-group
-invariant-loop-group l = l.list ≡ combined_from 0 (map variable_of (take l.group l.variables))

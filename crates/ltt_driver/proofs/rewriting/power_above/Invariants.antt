@@ -1,6 +1,0 @@
-use Rattle.std.proofs.Common.{◌≡◌, ◌-◌}
-use Rattle.ltt_driver.specs.Rewriting.{doubled_to}
-use Rattle.ltt_driver.proofs.rewriting.power_above.Given as goal
-
-abbrev pub invariant-loop-doublings : goal.invariant-loop-doublings
-invariant-loop-doublings l = doubled_to (64 - l._doublings) l.power l.n ≡ doubled_to 64 1 l.n

@@ -1,7 +1,0 @@
-use Rattle.std.proofs.Common.{take}
-use Rattle.std.specs.List.{All}
-use Rattle.ltt_driver.specs.Thin.{IsNodeNumber}
-use Rattle.ltt_driver.proofs.thin.rules.are_node_numbers.Given as goal
-
-abbrev pub invariant-loop-node : goal.invariant-loop-node
-invariant-loop-node l = All (λ n. IsNodeNumber n.number) (take l.node-index l.nodes)

@@ -1,9 +1,0 @@
-use Rattle.std.proofs.Common.{◌≡◌, ◌<◌, ◌^◌, drop}
-use Rattle.ltt_driver.specs.Thin.{number_from}
-use Rattle.ltt_driver.proofs.thin.rules.is_below.Given as goal
-
-abbrev pub invariant-loop-digit : goal.invariant-loop-digit
-invariant-loop-digit l = record {
-  so_far : number_from l.value (drop l.digit-index l.digits) ≡ number_from 0 l.digits;
-  small : l.value < 2 ^ 32;
-}

@@ -1,5 +1,0 @@
-use Rattle.std.proofs.Common.{◌≡◌, ◌∷◌, map, take}
-use Rattle.ltt_driver.proofs.thin.texts.global_names.Given as goal
-
-abbrev pub invariant-loop-variable : goal.invariant-loop-variable
-invariant-loop-variable l = l.names ≡ l.function ∷ map (λ v. v.name) (take l.variable-index l.variables)

@@ -1,4 +1,0 @@
-use Rattle.ltt_driver.proofs.thin.units.lone_pointer.Goals as goal
-
-pub returns-in-None-pointer_name : goal.returns-in-None-pointer_name
-returns-in-None-pointer_name c = λ name same. c.in-None-pointer_name.ensures name (cc (c.in-Some.ensures))

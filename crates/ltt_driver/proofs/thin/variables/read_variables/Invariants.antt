@@ -1,6 +1,0 @@
-use Rattle.std.proofs.Common.{take}
-use Rattle.ltt_driver.specs.Shape.{AreVariables}
-use Rattle.ltt_driver.proofs.thin.variables.read_variables.Given as goal
-
-abbrev pub invariant-loop-unit : goal.invariant-loop-unit
-invariant-loop-unit l = AreVariables (take l.unit-index l.units) l.nodes l.variables

@@ -1,0 +1,13 @@
+pub mod Following
+pub mod ValueLaws
+pub mod StepLaws
+pub mod TakenLaws
+pub mod RunLaws
+pub mod PlainLaws
+pub mod ItemLaws
+pub mod AddressLaws
+pub mod BridgeLaws
+pub mod StartLaws
+pub mod WideLaws
+pub mod SimulationLaws
+pub mod ExampleLaws

@@ -1,0 +1,10 @@
+pub mod Allowed
+pub mod Determined
+pub mod Example
+pub mod Lists
+pub mod Numbers
+pub mod Places
+pub mod Reading
+pub mod Tails
+pub mod Units
+pub mod Variables
