@@ -1,13 +1,11 @@
 -- Steps of the fragments.
-use Rattle.std.proofs.Common.{◌≡◌, ℕ, ◌+◌, ◌<◌, ◌≤◌, Bool, true, not, cond, List, [], ◌∷◌, ◌++◌, length, get_or, take, sym, ap, ◌∙◌, arith, add-zero}
+use Rattle.std.proofs.Common.{◌≡◌, ℕ, ◌+◌, ◌<◌, ◌≤◌, List, [], ◌∷◌, ◌++◌, length, get_or, take, sym, ap, ◌∙◌, arith, add-zero}
 use Rattle.std.specs.Prelude.{All}
-use Rattle.std.specs.List.{filter, concat}
-use Rattle.std.proofs.lemmas.List.{take_more, length-take, append-nil, get_or_default}
+use Rattle.std.proofs.lemmas.List.{take_more, length-take, get_or_default}
 use Rattle.std.proofs.lemmas.List.Sums.{fold_more}
-use Rattle.std.proofs.lemmas.List.Folds.{concat-append}
-use Rattle.std.proofs.lemmas.List.Elements.{filter-append, All-nil, All-cons}
+use Rattle.std.proofs.lemmas.List.Elements.{All-nil, All-cons}
 use Rattle.global_layout.specs.declared.ids.IdMembers.{IdMembers}
-use Rattle.global_layout.specs.Fragments.{sizes_from, id_order, holds_any, touched, untouched, with_id, objects_at, fragments_in, no_id}
+use Rattle.global_layout.specs.Fragments.{sizes_from, id_order, with_id, objects_at, fragments_in, no_id}
 use Rattle.global_layout.proofs.OrderedLemmas.{all-ordered}
 
 append_size : (number : ℕ) (ids : List IdMembers) (id : IdMembers) → sizes_from number (ids ++ id ∷ []) ≡ sizes_from number ids ++ (length id.members, number + length ids) ∷ []
@@ -31,21 +29,6 @@ sizes_within number end (id ∷ ids) fits =
 
 pub order-within : (ids : List IdMembers) → All (λ pair. pair.1 < length ids) (id_order ids)
 order-within ids = all-ordered (λ pair. pair.1 < length ids) (sizes_from 0 ids) (sizes_within 0 (length ids) ids (omega arith))
-
-pub touched-push : (objects : List ℕ) (before : List (List ℕ)) (fragment : List ℕ) → holds_any objects fragment ≡ true
-    → touched objects (before ++ fragment ∷ []) ≡ touched objects before ++ fragment
-touched-push objects before fragment held =
-    ap concat (filter-append (holds_any objects) before (fragment ∷ []))
-    ∙ concat-append (filter (holds_any objects) before) (cond (holds_any objects fragment) (fragment ∷ []) [])
-    ∙ ap (λ (t : Bool). touched objects before ++ concat (cond t (fragment ∷ []) [])) held
-    ∙ ap (λ f. touched objects before ++ f) (append-nil fragment)
-
-pub untouched-push : (objects : List ℕ) (before : List (List ℕ)) (fragment : List ℕ) → holds_any objects fragment ≡ true
-    → untouched objects (before ++ fragment ∷ []) ≡ untouched objects before
-untouched-push objects before fragment held =
-    filter-append (λ f. not (holds_any objects f)) before (fragment ∷ [])
-    ∙ ap (λ (t : Bool). untouched objects before ++ cond t (fragment ∷ []) []) (ap not held)
-    ∙ append-nil (untouched objects before)
 
 pub fragments-step : (ids : List IdMembers) (order : List (ℕ × ℕ)) (k : ℕ) (fragments more : List (List ℕ)) (d : IdMembers) → k < length order
     → (get_or order k (0, 0)).1 < length ids → fragments ≡ fragments_in ids (take k order)

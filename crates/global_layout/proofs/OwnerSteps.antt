@@ -33,11 +33,10 @@ root-none owner objects at n before within found so_far =
       neither false = refl
 
 pub own-more : (owner : ℕ → Option ℕ) (objects : List ℕ) (at n o : ℕ) (before after : Option ℕ) → at < length objects
-    → after ≡ cond (is_at (nat_cmp (get_or objects at 0)) o) (Some n) before → before ≡ owner_more owner (take at objects) n o
+    → after ≡ (if get_or objects at 0 == o then Some n else before) → before ≡ owner_more owner (take at objects) n o
     → after ≡ owner_more owner (take (at + 1) objects) n o
 own-more owner objects at n o before after within is so_far =
-    is ∙ ap (λ (t : Bool). cond t (Some n) before) (key-is (get_or objects at 0) o)
-    ∙ ap (λ (b : Option ℕ). cond (get_or objects at 0 == o) (Some n) b) so_far
+    is ∙ ap (λ (b : Option ℕ). cond (get_or objects at 0 == o) (Some n) b) so_far
     ∙ by_tests (get_or objects at 0 == o) (is_among (take at objects) o)
     ∙ ap (λ (t : Bool). if t then Some n else owner o) (sym (list_any_more (λ y. y == o) objects at 0 within)) where
       by_tests : (t u : Bool) → cond t (Some n) (if u then Some n else owner o) ≡ (if u || t then Some n else owner o)

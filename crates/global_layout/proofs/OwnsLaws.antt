@@ -1,18 +1,18 @@
 -- Each object's number is that of its fragment, also behind a step.
-use Rattle.std.proofs.Common.{◌≡◌, ℕ, ◌+◌, ◌<◌, ◌≤◌, inl, inr, Bool, true, false, not, ◌||◌, List, [], ◌∷◌, ◌++◌, get_or, Option, Some, None, Greater, refl, sym, ap, subst, ◌∙◌, arith, cond}
+use Rattle.std.proofs.Common.{zero, suc, set, length, ◌≡◌, ℕ, ◌+◌, ◌<◌, ◌≤◌, inl, inr, Bool, true, false, not, ◌||◌, List, [], ◌∷◌, ◌++◌, get_or, Option, Some, None, Greater, refl, sym, ap, subst, ◌∙◌, arith, cond}
 use Rattle.std.specs.Prelude.{All, ◌==◌, if◌then◌else◌, is_some}
 use Rattle.std.specs.List.{filter, concat}
 use Rattle.std.specs.List.Sorted.{IsStrictlySortedBy}
 use Rattle.std.specs.Cmp.{nat_cmp_is}
-use Rattle.std.specs.Map.{values_of, keys_of, lookup}
+use Rattle.std.specs.Map.{values_of, keys_of}
 use Rattle.std.specs.Ordering.{nat_cmp, match_ordering}
-use Rattle.std.specs.BTreeMap.{insert_entry, is_at}
-use Rattle.std.proofs.lemmas.List.{map-append}
+use Rattle.std.specs.BTreeMap.{insert_entry}
+use Rattle.std.proofs.lemmas.List.{map-append, get_or-set_same, get_or-set_other}
 use Rattle.std.proofs.lemmas.List.Folds.{list_any-append}
 use Rattle.std.proofs.lemmas.List.Elements.{All-head, All-tail, All-cons, All-nil, All-push}
 use Rattle.std.proofs.lemmas.Bool.{eq-eqb, ne_eqb, eqb-true, or_parts, or_cases, or_right}
 use Rattle.global_layout.specs.Fragments.{is_among, is_held}
-use Rattle.global_layout.specs.Owners.{is_of, Owns, joined, rest, unowned, owner_more}
+use Rattle.global_layout.specs.Owners.{owner_in, is_of, Owns, joined, rest, unowned, owner_more}
 
 all_rest : (p : ℕ → Bool) (P : ℕ × List ℕ → Type 0) (es : List (ℕ × List ℕ)) → All (λ e. p e.0 ≡ false → P e) es → All P (rest p es)
 all_rest p P [] all = All-nil P
@@ -164,7 +164,20 @@ none_own = record {
   rising = none_rise;
 }
 
-pub owns-none : (live : List (ℕ × List ℕ)) (owners : List (ℕ × ℕ)) → live ≡ [] → owners ≡ [] → Owns live (λ o. lookup (is_at (nat_cmp o)) owners) 0
+pub owns-none : (live : List (ℕ × List ℕ)) (owners : List (Option ℕ)) → live ≡ [] → owners ≡ [] → Owns live (owner_in owners) 0
 owns-none live owners no_live no_owners =
-    subst (λ (es : List (ℕ × List ℕ)). Owns es (λ o. lookup (is_at (nat_cmp o)) owners) 0) (sym no_live)
-    (subst (λ (os : List (ℕ × ℕ)). Owns [] (λ o. lookup (is_at (nat_cmp o)) os) 0) (sym no_owners) none_own)
+    subst (λ (es : List (ℕ × List ℕ)). Owns es (owner_in owners) 0) (sym no_live)
+    (subst (λ (os : List (Option ℕ)). Owns [] (owner_in os) 0) (sym no_owners) none_own)
+
+-- an object more that has no number
+pub longer-same : (owners : List (Option ℕ)) (o : ℕ) → owner_in (owners ++ None ∷ []) o ≡ owner_in owners o
+longer-same [] zero = refl
+longer-same [] (suc o) = refl
+longer-same (w ∷ ws) zero = refl
+longer-same (w ∷ ws) (suc o) = longer-same ws o
+
+pub set-owner : (owners : List (Option ℕ)) (x n o : ℕ) → x < length owners → owner_in (set owners x (Some n)) o ≡ (if x == o then Some n else owner_in owners o)
+set-owner owners x n o within = by_test (x == o) refl where
+  by_test : (t : Bool) → (x == o) ≡ t → owner_in (set owners x (Some n)) o ≡ (if t then Some n else owner_in owners o)
+  by_test true is = ap (λ m. owner_in (set owners x (Some n)) m) (sym (eqb-true x o is)) ∙ get_or-set_same owners x (Some n) None within
+  by_test false is = get_or-set_other owners x o (Some n) None (λ same. let h = sym (eq-eqb x o (sym same)) ∙ is in cc)

@@ -1,10 +1,14 @@
 -- Fragments under rising numbers, and for each object the number of the fragment that holds it.
-use Rattle.std.specs.Prelude.{◌≡◌, ℕ, ◌<◌, ◌≤◌, Bool, false, not, List, ◌==◌, All, Option, Some, None, is_some, if◌then◌else◌}
+use Rattle.std.specs.Prelude.{◌≡◌, ℕ, ◌<◌, ◌≤◌, Bool, false, not, List, ◌==◌, All, Option, Some, None, is_some, if◌then◌else◌, slice_index_or}
 use Rattle.std.specs.List.{list_any, filter, concat}
 use Rattle.std.specs.List.Sorted.{IsStrictlySortedBy}
 use Rattle.std.specs.Ordering.{nat_cmp}
 use Rattle.std.specs.Map.{keys_of, values_of}
 use Rattle.global_layout.specs.Fragments.{is_among, is_held}
+
+-- an object's number in a list by objects
+abbrev pub owner_in : List (Option ℕ) → ℕ → Option ℕ
+owner_in owners object = slice_index_or owners object None
 
 -- whether an object's number is this one
 abbrev pub is_of : Option ℕ → ℕ → Bool

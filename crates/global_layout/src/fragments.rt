@@ -1,4 +1,4 @@
-ghost use Rattle.std.specs.Prelude.{◌≡◌, ℕ, ◌+◌, ◌<◌, ◌≤◌, ◌++◌, [], ◌∷◌, length, IfOk, OnOk, All, take};
+ghost use Rattle.std.specs.Prelude.{◌≡◌, ℕ, ◌+◌, ◌<◌, ◌≤◌, ◌++◌, [], ◌∷◌, length, IfOk, OnOk, All, take, ◌==◌, if◌then◌else◌, Some};
 ghost use Rattle.std.specs.List.{filter, concat};
 ghost use Rattle.std.specs.Map.{values_of};
 ghost use Rattle.std.specs.BTreeMap as map;
@@ -31,7 +31,7 @@ fn fragments_in(
     ensures { IfOk result (λ fragments. fragments ≡ spec.fragments_in ids.now order.now) }
 {
     let mut live = BTreeMap::new(alloc);
-    let mut owners = BTreeMap::new(alloc);
+    let mut owners = Vec::new(alloc);
     for at in 0..order.len() {
         let (_, number) = order[at];
         with_id(
@@ -77,14 +77,15 @@ fn with_id(
     objects: &[u32],
     number: usize,
     live: &mut BTreeMap<usize, List<u32>>,
-    owners: &mut BTreeMap<u32, usize>,
+    owners: &mut Vec<Option<usize>>,
 ) -> Result<(), Memory>
-    requires { owner.Owns live.old.entries (map.get nat_cmp owners.old) number }
+    requires { owner.Owns live.old.entries (owner.owner_in owners.old.items) number }
     ensures step { OnOk result (values_of live.new.entries ≡ spec.with_id objects.now (values_of live.old.entries)) }
-    ensures owns { OnOk result (owner.Owns live.new.entries (map.get nat_cmp owners.new) (number + 1)) }
+    ensures owns { OnOk result (owner.Owns live.new.entries (owner.owner_in owners.new.items) (number + 1)) }
 {
-    let others = unowned(alloc, objects, owners)?;
-    let numbers = roots(alloc, objects, owners)?;
+    let known = owners.as_slice();
+    let others = unowned(alloc, objects, known)?;
+    let numbers = roots(alloc, objects, known)?;
     let mut fragment = joined(alloc, numbers, live)?;
     fragment.append(others)?;
     own(fragment.items(), number, owners)?;
@@ -98,14 +99,14 @@ fn with_id(
 fn roots(
     alloc: Global,
     objects: &[u32],
-    owners: &BTreeMap<u32, usize>,
+    owners: &[Option<usize>],
 ) -> Result<BTreeSet<usize>, Memory>
-    ensures { IfOk result (λ numbers. (n : ℕ) → set.contains nat_cmp numbers n ≡ owner.is_root (map.get nat_cmp owners.now) objects.now n) }
+    ensures { IfOk result (λ numbers. (n : ℕ) → set.contains nat_cmp numbers n ≡ owner.is_root (owner.owner_in owners.now) objects.now n) }
 {
     let mut numbers = BTreeSet::new(alloc);
     for at in 0..objects.len() {
-        if let Some(number) = owners.get(&objects[at]) {
-            match numbers.insert(*number) {
+        if let Some(number) = owner_of(owners, objects[at]) {
+            match numbers.insert(number) {
                 Ok(_) => {}
                 Err(_) => return Err(Memory),
             }
@@ -128,23 +129,31 @@ fn joined(
     let mut fragment = List::new(alloc);
     while let Some(number) = numbers.pop_first() {
         if let Some(more) = live.remove(&number) {
-            fragment.append(more)?;
+            fragment = followed(fragment, more)?;
         }
     }
     Ok(fragment)
 }
 
+// The items of one list and then of another, which is not copied where the first is empty.
+fn followed(first: List<u32>, more: List<u32>) -> Result<List<u32>, Memory>
+    ensures { IfOk result (λ both. both ≡ first ++ more) }
+{
+    if first.is_empty() {
+        return Ok(more);
+    }
+    let mut both = first;
+    both.append(more)?;
+    Ok(both)
+}
+
 // The objects that no fragment holds.
-fn unowned(
-    alloc: Global,
-    objects: &[u32],
-    owners: &BTreeMap<u32, usize>,
-) -> Result<List<u32>, Memory>
-    ensures { IfOk result (λ others. others ≡ owner.unowned (map.get nat_cmp owners.now) objects.now) }
+fn unowned(alloc: Global, objects: &[u32], owners: &[Option<usize>]) -> Result<List<u32>, Memory>
+    ensures { IfOk result (λ others. others ≡ owner.unowned (owner.owner_in owners.now) objects.now) }
 {
     let mut others = List::new(alloc);
     for at in 0..objects.len() {
-        if !owners.contains_key(&objects[at]) {
+        if owner_of(owners, objects[at]).is_none() {
             others.add(objects[at])?;
         }
     }
@@ -152,16 +161,47 @@ fn unowned(
 }
 
 // Puts objects under a number.
-fn own(objects: &[u32], number: usize, owners: &mut BTreeMap<u32, usize>) -> Result<(), Memory>
-    ensures { OnOk result ((o : ℕ) → map.get nat_cmp owners.new o ≡ owner.owner_more (map.get nat_cmp owners.old) objects.now number o) }
+fn own(objects: &[u32], number: usize, owners: &mut Vec<Option<usize>>) -> Result<(), Memory>
+    ensures { OnOk result ((o : ℕ) → owner.owner_in owners.new.items o ≡ owner.owner_more (owner.owner_in owners.old.items) objects.now number o) }
 {
     for at in 0..objects.len() {
-        match owners.insert(objects[at], number) {
-            Ok(_) => {}
+        put(objects[at], number, owners)?;
+    }
+    Ok(())
+}
+
+// Puts an object under a number.
+fn put(object: u32, number: usize, owners: &mut Vec<Option<usize>>) -> Result<(), Memory>
+    ensures { OnOk result ((o : ℕ) → owner.owner_in owners.new.items o ≡ (if object == o then Some number else owner.owner_in owners.old.items o)) }
+{
+    grow(object as usize, owners)?;
+    owners[object as usize] = Some(number);
+    Ok(())
+}
+
+// Makes the list longer than a place, by objects that have no number.
+fn grow(place: usize, owners: &mut Vec<Option<usize>>) -> Result<(), Memory>
+    ensures long { OnOk result (place < length owners.new.items) }
+    ensures same { OnOk result ((o : ℕ) → owner.owner_in owners.new.items o ≡ owner.owner_in owners.old.items o) }
+{
+    while owners.len() <= place {
+        match owners.push(None) {
+            Ok(()) => {}
             Err(_) => return Err(Memory),
         }
     }
     Ok(())
+}
+
+// The number of an object.
+fn owner_of(owners: &[Option<usize>], object: u32) -> Option<usize>
+    ensures { result ≡ owner.owner_in owners.now object }
+{
+    if (object as usize) < owners.len() {
+        owners[object as usize]
+    } else {
+        None
+    }
 }
 
 // The fragments in the order of their numbers, which no later identifier touched.

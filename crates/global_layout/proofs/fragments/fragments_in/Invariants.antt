@@ -1,13 +1,11 @@
 use Rattle.std.proofs.Common.{◌≡◌, take}
 use Rattle.std.specs.Map.{values_of}
-use Rattle.std.specs.BTreeMap.{get}
-use Rattle.std.specs.Ordering.{nat_cmp}
 use Rattle.global_layout.specs.Fragments.{fragments_in}
-use Rattle.global_layout.specs.Owners.{Owns}
+use Rattle.global_layout.specs.Owners.{owner_in, Owns}
 use Rattle.global_layout.proofs.fragments.fragments_in.Given as goal
 
 abbrev pub invariant-loop-at : goal.invariant-loop-at
 invariant-loop-at l = record {
   fragments : values_of l.live.entries ≡ fragments_in l.ids (take l.at l.order);
-  owns : Owns l.live.entries (get nat_cmp l.owners) l.at;
+  owns : Owns l.live.entries (owner_in l.owners.items) l.at;
 }

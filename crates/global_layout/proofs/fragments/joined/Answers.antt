@@ -3,11 +3,11 @@ use Rattle.std.proofs.lemmas.List.{append-nil}
 use Rattle.global_layout.proofs.OwnerLaws.{joined-more, rest-more, joined-all, rest-all, no-key}
 use Rattle.global_layout.proofs.fragments.joined.Goals as goal
 
-pub loop-number-preserved-in-Continue-1 : goal.loop-number-preserved-in-Continue-1
-loop-number-preserved-in-Continue-1 c = record {
+pub loop-number-preserved-in-Some-remove : goal.loop-number-preserved-in-Some-remove
+loop-number-preserved-in-Some-remove c = record {
   joined = joined-more c.in-Some.number c.loop-number.numbers.keys c.pop_first.new.self.keys c.loop-number.live.entries c.remove.new.self.entries
-      (Some c.in-Some-remove.more) c.loop-number.fragment c.append.new.self _ c.in-Some.ensures.removal c.in-Some.ensures.all_above c.loop-number.invariant.ordered
-      c.in-Some-remove.ensures.value c.remove.ensures.entries c.in_ok-append.ensures.added c.loop-number.invariant.joined;
+      (Some c.in-Some-remove.more) c.loop-number.fragment _ _ c.in-Some.ensures.removal c.in-Some.ensures.all_above c.loop-number.invariant.ordered
+      c.in-Some-remove.ensures.value c.remove.ensures.entries c.in_ok-fragment.ensures c.loop-number.invariant.joined;
   rest = rest-more c.in-Some.number c.loop-number.numbers.keys c.pop_first.new.self.keys c.loop-number.live.entries c.remove.new.self.entries _
       c.in-Some.ensures.removal c.in-Some.ensures.all_above c.loop-number.invariant.ordered c.remove.ensures.entries c.loop-number.invariant.rest;
   ordered = c.remove.ensures.ordered;
