@@ -3,7 +3,7 @@ use Rattle.std.specs.Prelude.{ℕ, zero, suc, ◌+◌, ◌-◌, ◌*◌, Bool, f
 use Rattle.std.specs.List.{list_all}
 use Rattle.std.specs.Char.{is_ascii_digit, is_ascii_hexdigit, digit_value}
 use Rattle.ir_lex.specs.declared.token.Kind.{Kind}
-use Rattle.ir_lex.specs.declared.token.Kind.TheVariants.{Global, Local, Comdat, Meta, MetaText, Label, Quoted, Bytes}
+use Rattle.ir_lex.specs.declared.token.Kind.TheVariants.{Global, Local, Comdat, Meta, MetaText, Group, Label, Quoted, Bytes}
 
 -- two hexadecimal digits at the front
 abbrev pub begins_hex : List ℕ → Bool
@@ -43,14 +43,29 @@ abbrev pub is_number : List ℕ → Bool
 is_number [] = false
 is_number (b ∷ bytes) = list_all is_ascii_digit (b ∷ bytes) && (not (b == 48) || length bytes == 0)
 
+-- digits without the zeros in front of them
+unfoldable pub without_zeros : List ℕ → List ℕ
+without_zeros [] = []
+without_zeros (b ∷ []) = b ∷ []
+without_zeros (b ∷ c ∷ bytes) = if b == 48 then without_zeros (c ∷ bytes) else b ∷ c ∷ bytes
+
+-- a bare name: digits are their number, and anything else stands for itself
+abbrev pub bare_name : List ℕ → List ℕ
+bare_name bytes = if list_all is_ascii_digit bytes then without_zeros bytes else bytes
+
+-- a name that may be quoted
+abbrev pub either_name : List ℕ → List ℕ
+either_name bytes = if slice_index bytes 0 == 34 then unescaped (between_quotes bytes) else bare_name bytes
+
 -- The name or the text that a token's bytes say: without its sign or its colon, and without quotes and escapes.
--- Digits stand as they are written, and a bare name of metadata has no escapes.
+-- A bare name of digits is their number without leading zeros, and a bare name of metadata has no escapes.
 abbrev pub name_of : Kind → List ℕ → List ℕ
-name_of Label bytes = unquoted (take (length bytes - 1) bytes)
-name_of Global bytes = unquoted (drop 1 bytes)
-name_of Local bytes = unquoted (drop 1 bytes)
+name_of Label bytes = either_name (take (length bytes - 1) bytes)
+name_of Global bytes = either_name (drop 1 bytes)
+name_of Local bytes = either_name (drop 1 bytes)
 name_of Comdat bytes = unquoted (drop 1 bytes)
-name_of Meta bytes = drop 1 bytes
+name_of Meta bytes = bare_name (drop 1 bytes)
+name_of Group bytes = bare_name (drop 1 bytes)
 name_of MetaText bytes = unquoted (drop 1 bytes)
 name_of Quoted bytes = unquoted bytes
 name_of Bytes bytes = unquoted (drop 1 bytes)

@@ -5,7 +5,7 @@ use Rattle.std.specs.Char.{is_ascii_digit}
 use Rattle.ir_lex.specs.declared.token.Kind.{Kind}
 use Rattle.ir_lex.specs.declared.token.Kind.TheVariants.{Word, Mark}
 use Rattle.ir_lex.specs.Kinds.{row}
-use Rattle.ir_lex.specs.Names.{name_of, unquoted}
+use Rattle.ir_lex.specs.Names.{name_of, either_name}
 use Rattle.unit_grammar.specs.Pieces.{Piece}
 
 -- What a sign asks of a token's bytes: nothing; to be one of these texts; to be this byte and digits; not to be so.
@@ -101,9 +101,9 @@ starts_apart s r = apart s.first r.first || seconds_apart s.second r.second
 abbrev pub all_apart : List Start → List Start → Bool
 all_apart starts others = list_all (λ s. list_all (starts_apart s) others) starts
 
--- what stands behind a token's sign, without quotes and escapes
+-- the name behind a token's sign
 abbrev pub behind_sign : Piece → List ℕ
-behind_sign t = unquoted (drop 1 t.bytes)
+behind_sign t = either_name (drop 1 t.bytes)
 
 -- the name that a token of the kind says
 abbrev pub name : Kind → Piece → List ℕ

@@ -1,7 +1,7 @@
 ghost use Rattle.std.specs.Prelude.{◌≡◌, ◌++◌, ◌∷◌, [], IfOk, OnOk, drop};
 ghost use Rattle.ir_lex.specs.Names as spec;
 
-use crate::bytes::{byte_at, hex};
+use crate::bytes::{are_digits, byte_at, hex};
 use ltt_base::{List, Memory, Text};
 use std::alloc::Global;
 
@@ -87,5 +87,41 @@ pub fn unquoted(alloc: Global, bytes: &[u8]) -> Result<Text, Memory>
         unescaped(alloc, between_quotes(bytes))
     } else {
         Text::copy(alloc, bytes)
+    }
+}
+
+#[tactic(auto, unfolding(ir_lex::specs::Names::without_zeros))]
+fn without_zeros(bytes: &[u8]) -> &[u8]
+    ensures { result.now ≡ spec.without_zeros bytes.now }
+{
+    let mut rest = bytes;
+    while let [first, behind @ ..] = rest {
+        if *first != b'0' || behind.is_empty() {
+            return rest;
+        }
+        rest = behind;
+    }
+    rest
+}
+
+/// A bare name: digits are their number, without leading zeros, and anything else stands for itself.
+pub fn bare_name(bytes: &[u8]) -> &[u8]
+    ensures { result.now ≡ spec.bare_name bytes.now }
+{
+    if are_digits(bytes) {
+        without_zeros(bytes)
+    } else {
+        bytes
+    }
+}
+
+/// A name that may be quoted, without quotes and escapes.
+pub fn either_name(alloc: Global, bytes: &[u8]) -> Result<Text, Memory>
+    ensures { IfOk result (λ text. text ≡ spec.either_name bytes.now) }
+{
+    if byte_at(bytes, 0) == b'"' {
+        unescaped(alloc, between_quotes(bytes))
+    } else {
+        Text::copy(alloc, bare_name(bytes))
     }
 }

@@ -14,7 +14,7 @@ mod tokens;
 pub use attached::attachments;
 pub use brackets::enclosed;
 pub use bytes::are_digits;
-pub use escapes::{unquoted, without_first};
+pub use escapes::{bare_name, either_name, unquoted, without_first};
 pub use input::Input;
 pub use lists::{one, two};
 pub use seen::Seen;

@@ -1,6 +1,6 @@
 use crate::{
-    Input, Stop, attachments, enclosed, global, is_one_of, local, of_kind, one, two, unquoted,
-    word, word_of,
+    Input, Stop, attachments, either_name, enclosed, global, is_one_of, local, of_kind, one, two,
+    unquoted, word, word_of,
 };
 use ir_lex::{Kind, Token};
 use ltt_base::Place;
@@ -98,5 +98,14 @@ fn short_lists(rt: HostRuntime) -> Result<(), Fail> {
     assert!(rt; two(rt.alloc(), 7u64, 8)?.items() == [7, 8].as_slice());
     assert!(rt; unquoted(rt.alloc(), b"\"\\5C\"")?.is_bytes(b"\\"));
     assert!(rt; is_one_of(b"a", &["b", "a"]));
+    Ok(())
+}
+
+#[test]
+fn bare_numbers_lose_their_zeros(rt: HostRuntime) -> Result<(), Fail> {
+    assert!(rt; either_name(rt.alloc(), b"007")?.is_bytes(b"7"));
+    assert!(rt; either_name(rt.alloc(), b"000")?.is_bytes(b"0"));
+    assert!(rt; either_name(rt.alloc(), b"\"007\"")?.is_bytes(b"007"));
+    assert!(rt; either_name(rt.alloc(), b"07a")?.is_bytes(b"07a"));
     Ok(())
 }

@@ -7,7 +7,7 @@ ghost use Rattle.unit_grammar.specs.Signs as spec;
 ghost use Rattle.unit_grammar.specs.Attachments.{meta_kind, meta_node};
 
 use crate::bytes::are_digits;
-use crate::escapes::{unquoted, without_first};
+use crate::escapes::{bare_name, either_name, without_first};
 use crate::input::Input;
 use crate::seen::Seen;
 use crate::stop::Stop;
@@ -143,7 +143,7 @@ pub fn word_of<'a>(input: &Input<'a>, at: usize, texts: &[&str]) -> Result<(Seen
     }
 }
 
-/// What stands behind the sign of a token of the kind, without quotes and escapes.
+/// The name behind the sign of a token of the kind.
 fn behind_sign(
     alloc: Global,
     input: &Input<'_>,
@@ -153,7 +153,7 @@ fn behind_sign(
     ensures { Gives (tokens input.now) result (token_read (spec.of_kind kind) spec.behind_sign (drop at (tokens input.now))) }
 {
     let (seen, at) = of_kind(input, at, kind)?;
-    let name = unquoted(alloc, without_first(seen.bytes))?;
+    let name = either_name(alloc, without_first(seen.bytes))?;
     Ok((name, at))
 }
 
@@ -214,12 +214,12 @@ fn is_meta_kind(seen: &Seen<'_>) -> bool
     is_kind(seen, Kind::Meta) && !is_numbered(seen.bytes, b'!')
 }
 
-/// The digits of a node's number, without the `!`.
+/// A node's number, without the `!` and without leading zeros.
 pub fn node(alloc: Global, input: &Input<'_>, at: usize) -> Result<(Text, usize), Stop>
     ensures { Gives (tokens input.now) result (token_read meta_node (spec.name Kind.Meta) (drop at (tokens input.now))) }
 {
     let (seen, at) = numbered(input, at, Kind::Meta, b'!')?;
-    let digits = Text::copy(alloc, without_first(seen.bytes))?;
+    let digits = Text::copy(alloc, bare_name(without_first(seen.bytes)))?;
     Ok((digits, at))
 }
 
@@ -230,7 +230,7 @@ pub fn meta_kind(alloc: Global, input: &Input<'_>, at: usize) -> Result<(Text, u
     match input.at(at) {
         Some(seen) => {
             if is_meta_kind(&seen) {
-                let name = Text::copy(alloc, without_first(seen.bytes))?;
+                let name = Text::copy(alloc, bare_name(without_first(seen.bytes)))?;
                 Ok((name, at + 1))
             } else {
                 Err(Stop::Absent)
