@@ -5,18 +5,21 @@ use Rattle.ir_values.specs.declared.types.Ty.TheVariants.{Void, Int, Ptr, Pair, 
 use Rattle.ir_values.specs.declared.types.Width.{Width}
 use Rattle.ir_values.specs.declared.constants.Const.{Const}
 use Rattle.ir_values.specs.declared.constants.Const.TheVariants.{Int as Number, Left, Zero as ZeroAt}
+use Rattle.ir_values.specs.declared.units.MetaItem.{MetaItem}
 use Rattle.type_grammar.specs.declared.bare.Bare.{Bare}
 use Rattle.type_grammar.specs.declared.bare.Bare.TheVariants.{Number as BareNumber, Zero, Plain}
 use Rattle.type_grammar.specs.Numbers.{int_of}
 
--- types, constants, and the left-out constants with their parentheses
+-- types, those that values have, constants, the left-out constants with their parentheses, and parts of metadata nodes
 pub data Name : Type 0 where
-  a_type a_constant a_left : Name
+  a_type a_value_type a_constant a_left an_item : Name
 
 abbrev pub Value : Name → Type 0
 Value a_type = Ty
+Value a_value_type = Ty
 Value a_constant = Bare
 Value a_left = Bare
+Value an_item = MetaItem
 
 abbrev pub number_of : Width → List ℕ → Option ℕ → Const
 number_of w bytes (Some n) = Number w n

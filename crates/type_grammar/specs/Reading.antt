@@ -1,4 +1,4 @@
--- What the readers of types and constants compute.
+-- What the readers of types, constants and parts of metadata nodes compute.
 use Rattle.std.specs.Prelude.{◌≡◌, ℕ, zero, suc, cond, nat_lt, List, [], ◌∷◌, Option, Some, None, option_and_then}
 use Rattle.ir_values.specs.declared.constants.Const.TheVariants.{Number as NumberOf, Left}
 use Rattle.type_grammar.specs.declared.bare.Bare.{Bare}
@@ -7,9 +7,10 @@ use Rattle.unit_grammar.specs.Pieces.{Piece, spelling}
 use Rattle.unit_grammar.specs.Signs.{Start, begins_any}
 use Rattle.unit_grammar.specs.Plain.{plain_read}
 use Rattle.unit_grammar.specs.Readers.{Read, found, absent, deep, Reader, read, then_read, before}
-use Rattle.type_grammar.specs.Names.{Name, a_type, a_constant, a_left, Value}
-use Rattle.type_grammar.specs.Types.{type_body, type_starts}
+use Rattle.type_grammar.specs.Names.{Name, a_type, a_value_type, a_constant, a_left, an_item, Value}
+use Rattle.type_grammar.specs.Types.{type_body, type_starts, value_type_body, value_type_starts}
 use Rattle.type_grammar.specs.Constants.{constant_body, constant_starts}
+use Rattle.type_grammar.specs.Items.{item_body, item_starts}
 use Rattle.type_grammar.specs.Left.{left_text, number_text, address_of}
 use Rattle.type_grammar.specs.declared.address.Address.{Address}
 
@@ -38,8 +39,12 @@ left_read n ts = then_read (plain_read left_text ts) (λ _ rest. left_value n (b
 
 abbrev pub reads : ℕ → (x : Name) → Reader (Value x)
 reads zero a_type ts = level_read type_starts ts
+reads zero a_value_type ts = level_read value_type_starts ts
 reads zero a_constant ts = level_read constant_starts ts
 reads zero a_left ts = left_read zero ts
+reads zero an_item ts = level_read item_starts ts
 reads (suc n) a_type ts = read (reads n) type_body ts
+reads (suc n) a_value_type ts = read (reads n) value_type_body ts
 reads (suc n) a_constant ts = read (reads n) constant_body ts
 reads (suc n) a_left ts = left_read (suc n) ts
+reads (suc n) an_item ts = read (reads n) item_body ts

@@ -90,14 +90,24 @@ vector = mapped Left (spelled (mark (codes "<") ▹ of_kind Number ▹ word (cod
 unfoldable pub packed : IsPart Ty
 packed = mapped Left (spelled (mark (codes "<") ▹ mark (codes "{") ▹ (type_list ◃ mark (codes "}")) ◃ mark (codes ">")))
 
-unfoldable pub type_body : IsPart Ty
-type_body = integer or void or pointer or named or array or structure or left_type or vector or packed
+-- any type but `void`
+unfoldable pub value_type_body : IsPart Ty
+value_type_body = integer or pointer or named or array or structure or left_type or vector or packed
 
--- the tokens with which a type begins
+unfoldable pub type_body : IsPart Ty
+type_body = void or value_type_body
+
+-- the tokens with which a type begins, and one that isn't `void`
+unfoldable pub value_type_signs : List Sign
+value_type_signs =
+    integer_word ∷ word (codes "ptr") ∷ of_kind Local ∷ mark (codes "[") ∷ mark (codes "{") ∷ words left_type_words ∷
+    mark (codes "<") ∷ []
+
 unfoldable pub type_signs : List Sign
-type_signs =
-    integer_word ∷ word (codes "void") ∷ word (codes "ptr") ∷ of_kind Local ∷ mark (codes "[") ∷ mark (codes "{") ∷
-    words left_type_words ∷ mark (codes "<") ∷ []
+type_signs = word (codes "void") ∷ value_type_signs
+
+abbrev pub value_type_starts : List Start
+value_type_starts = map one_sign value_type_signs
 
 abbrev pub type_starts : List Start
 type_starts = map one_sign type_signs

@@ -4,6 +4,7 @@
 mod address;
 mod bare;
 mod constants;
+mod items;
 mod laws;
 mod left;
 mod numbers;
@@ -16,8 +17,10 @@ pub use bare::{Bare, at_type};
 pub use constants::constant;
 pub use laws::opened_is_told;
 pub use numbers::{int_of, length_of};
-pub use reading::{read_constant, read_type};
+pub use reading::{read_constant, read_own_items, read_type, read_value_type};
 pub use types::ty;
 
+#[cfg(test)]
+mod shown;
 #[cfg(test)]
 mod tests;

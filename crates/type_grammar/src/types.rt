@@ -1,5 +1,5 @@
 ghost use Rattle.std.specs.Prelude.{◌≡◌, IfOk, codes, drop, length};
-ghost use Rattle.type_grammar.specs.Names.{a_type};
+ghost use Rattle.type_grammar.specs.Names.{a_type, a_value_type};
 ghost use Rattle.type_grammar.specs.Reading.{reads};
 ghost use Rattle.type_grammar.specs.Types as spec;
 ghost use Rattle.unit_grammar.specs.Readers.{list_read, many_read, read, sign_read};
@@ -7,7 +7,7 @@ ghost use Rattle.unit_grammar.specs.Seeing.{Gives, Passes, tokens};
 ghost use Rattle.unit_grammar.specs.Signs.{mark};
 
 use crate::numbers::length_of;
-use crate::words::{begins_type, left_type_words};
+use crate::words::{begins_type, begins_value_type, left_type_words};
 use ir_lex::Kind;
 use ir_values::{Ty, Width};
 use ltt_base::{Boxed, List, Memory, Text};
@@ -255,20 +255,16 @@ fn type_list(
 }
 
 #[cycle(types)]
-#[tactic(auto, unfolding(crate::specs::Types::type_body))]
-fn type_body(
+#[tactic(auto, unfolding(crate::specs::Types::value_type_body))]
+fn value_type_body(
     alloc: Global,
     levels: usize,
     input: &Input<'_>,
     at: usize,
 ) -> Result<(Ty, usize), Stop>
-    ensures { Gives (tokens input.now) result (read (reads levels) spec.type_body (drop at (tokens input.now))) }
+    ensures { Gives (tokens input.now) result (read (reads levels) spec.value_type_body (drop at (tokens input.now))) }
 {
     match integer(alloc, levels, input, at) {
-        Err(Stop::Absent) => {}
-        found => return found,
-    }
-    match void(levels, input, at) {
         Err(Stop::Absent) => {}
         found => return found,
     }
@@ -297,6 +293,41 @@ fn type_body(
         found => return found,
     }
     packed(alloc, levels, input, at)
+}
+
+#[cycle(types)]
+#[tactic(auto, unfolding(crate::specs::Types::type_body))]
+fn type_body(
+    alloc: Global,
+    levels: usize,
+    input: &Input<'_>,
+    at: usize,
+) -> Result<(Ty, usize), Stop>
+    ensures { Gives (tokens input.now) result (read (reads levels) spec.type_body (drop at (tokens input.now))) }
+{
+    match void(levels, input, at) {
+        Err(Stop::Absent) => {}
+        found => return found,
+    }
+    value_type_body(alloc, levels, input, at)
+}
+
+/// The type that begins at a place and isn't `void`, where so many levels may be opened.
+pub fn value_ty(
+    alloc: Global,
+    levels: usize,
+    input: &Input<'_>,
+    at: usize,
+) -> Result<(Ty, usize), Stop>
+    ensures { Gives (tokens input.now) result (reads levels a_value_type (drop at (tokens input.now))) }
+{
+    if levels == 0 {
+        if begins_value_type(input, at) {
+            return Err(Stop::Deep);
+        }
+        return Err(Stop::Absent);
+    }
+    value_type_body(alloc, levels - 1, input, at)
 }
 
 /// The type that begins at a place, where so many levels may be opened.

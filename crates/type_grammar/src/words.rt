@@ -1,6 +1,7 @@
 ghost use Rattle.std.specs.Prelude.{◌≡◌, map, drop};
 ghost use Rattle.std.specs.List.{list_any};
 ghost use Rattle.type_grammar.specs.Constants as constants;
+ghost use Rattle.type_grammar.specs.Items as items;
 ghost use Rattle.type_grammar.specs.Types as types;
 ghost use Rattle.unit_grammar.specs.Seeing.{seen_piece, tokens};
 ghost use Rattle.unit_grammar.specs.Signs.{begins_any, passes};
@@ -27,14 +28,11 @@ pub fn left_type_words() -> &'static [&'static str]
     ]
 }
 
-#[tactic(auto, unfolding(crate::specs::Types::type_signs))]
-fn is_type_start(seen: &Seen<'_>) -> bool
-    ensures { result ≡ list_any (λ s. passes s (seen_piece seen.now)) types.type_signs }
+#[tactic(auto, unfolding(crate::specs::Types::value_type_signs))]
+fn is_value_type_start(seen: &Seen<'_>) -> bool
+    ensures { result ≡ list_any (λ s. passes s (seen_piece seen.now)) types.value_type_signs }
 {
     if is_number(seen, Kind::Word, b'i') {
-        return true;
-    }
-    if is_text(seen, Kind::Word, b"void") {
         return true;
     }
     if is_text(seen, Kind::Word, b"ptr") {
@@ -53,6 +51,26 @@ fn is_type_start(seen: &Seen<'_>) -> bool
         return true;
     }
     is_text(seen, Kind::Mark, b"<")
+}
+
+#[tactic(auto, unfolding(crate::specs::Types::type_signs))]
+fn is_type_start(seen: &Seen<'_>) -> bool
+    ensures { result ≡ list_any (λ s. passes s (seen_piece seen.now)) types.type_signs }
+{
+    if is_text(seen, Kind::Word, b"void") {
+        return true;
+    }
+    is_value_type_start(seen)
+}
+
+/// Whether a type that isn't `void` begins at a place, as its first token tells.
+pub fn begins_value_type(input: &Input<'_>, at: usize) -> bool
+    ensures { result ≡ begins_any types.value_type_starts (drop at (tokens input.now)) }
+{
+    match input.at(at) {
+        Some(seen) => is_value_type_start(&seen),
+        None => false,
+    }
 }
 
 /// Whether a type begins at a place, as its first token tells.
@@ -181,6 +199,35 @@ pub fn begins_constant(input: &Input<'_>, at: usize) -> bool
 {
     match input.at(at) {
         Some(seen) => is_constant_start(&seen),
+        None => false,
+    }
+}
+
+#[tactic(auto, unfolding(crate::specs::Items::item_signs))]
+fn is_item_start(seen: &Seen<'_>) -> bool
+    ensures { result ≡ list_any (λ s. passes s (seen_piece seen.now)) items.item_signs }
+{
+    if is_number(seen, Kind::Meta, b'!') {
+        return true;
+    }
+    if is_kind(seen, Kind::MetaText) {
+        return true;
+    }
+    if is_text(seen, Kind::Word, b"null") {
+        return true;
+    }
+    if is_text(seen, Kind::Mark, b"!") {
+        return true;
+    }
+    is_type_start(seen)
+}
+
+/// Whether a part of a metadata node begins at a place, as its first token tells.
+pub fn begins_item(input: &Input<'_>, at: usize) -> bool
+    ensures { result ≡ begins_any items.item_starts (drop at (tokens input.now)) }
+{
+    match input.at(at) {
+        Some(seen) => is_item_start(&seen),
         None => false,
     }
 }

@@ -28,10 +28,13 @@ abbrev pub decreases-ty : goal.decreases-ty
 decreases-ty l = 10 * l.levels + 0
 
 abbrev pub decreases-type_body : goal.decreases-type_body
-decreases-type_body l = 10 * l.levels + 6
+decreases-type_body l = 10 * l.levels + 7
 
 abbrev pub decreases-type_list : goal.decreases-type_list
 decreases-type_list l = 10 * l.levels + 4
+
+abbrev pub decreases-value_type_body : goal.decreases-value_type_body
+decreases-value_type_body l = 10 * l.levels + 6
 
 abbrev pub decreases-vector : goal.decreases-vector
 decreases-vector l = 10 * l.levels + 5
