@@ -1,0 +1,3 @@
+pub mod SomeLemmas
+pub mod AttachedLemmas
+pub mod HeadLaws

@@ -1,0 +1,12 @@
+use Rattle.std.proofs.Common.{◌≡◌, ◌-◌, [], drop, length}
+use Rattle.type_grammar.specs.Levels.{levels}
+use Rattle.type_grammar.specs.Reading.{reads}
+use Rattle.unit_grammar.specs.Readers.{many_read, read}
+use Rattle.unit_grammar.specs.Seeing.{tokens}
+use Rattle.word_grammar.specs.Attached as spec
+use Rattle.word_grammar.proofs.attached.head_attachments.Given as goal
+
+abbrev pub invariant-loop-turn : goal.invariant-loop-turn
+invariant-loop-turn l =
+    many_read (length (drop l.fn.at (tokens l.input))) (read (reads levels) spec.head_attach) [] (drop l.fn.at (tokens l.input)) ≡
+    many_read (length (drop l.fn.at (tokens l.input)) - l.turn) (read (reads levels) spec.head_attach) l.list (drop l.at (tokens l.input))
