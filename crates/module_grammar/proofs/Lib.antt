@@ -1,0 +1,4 @@
+pub mod FormLaws
+pub mod LineLaws
+pub mod EntryLaws
+pub mod LeftLaws
