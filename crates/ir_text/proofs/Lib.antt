@@ -1,12 +1,11 @@
-pub mod SeeingLemmas
-pub mod PartLaws
 pub mod ChoiceLaws
-pub mod PointerLaws
+pub mod UnionLaws
+pub mod InstructionStarts
+pub mod HeadStarts
+pub mod ModuleStarts
 pub mod FormLaws
-pub mod StartLaws
 pub mod ReadLaws
 pub mod TokenLaws
 pub mod PlaceLaws
 pub mod LexLaws
 pub mod AnswerLaws
-pub mod NumberLemmas

@@ -1,83 +1,53 @@
 -- From one unit to the units of a list of tokens: what the reader finds, and that it is the only reading.
 use Rattle.std.specs.Prelude.{Result, Ok, Err, is_err, OnOk}
-use Rattle.std.proofs.Common.{◌≡◌, false, ◌<◌, ◌≤◌, List, [], ◌∷◌, ◌++◌, length, Some, None, refl, sym, ◌∙◌, ap, subst, arith, length-append}
+use Rattle.std.specs.Result.{IsErrAnd}
+use Rattle.std.proofs.Common.{◌≡◌, false, ◌<◌, ◌≤◌, ◌⊎◌, inl, inr, List, [], ◌∷◌, ◌++◌, length, refl, sym, ◌∙◌, ap, subst, arith, length-append}
 use Rattle.ltt_base.specs.declared.refusal.Place.{Place}
 use Rattle.ltt_base.specs.declared.refusal.Placed.{Placed}
-use Rattle.ltt_base.specs.declared.refusal.Code.TheVariants.{E02}
+use Rattle.ltt_base.specs.declared.refusal.Code.TheVariants.{E02, E12}
+use Rattle.ltt_base.specs.declared.refusal.Refusal.{Refusal}
 use Rattle.ltt_base.specs.declared.refusal.Fault.{Fault}
 use Rattle.ltt_base.specs.declared.refusal.Fault.TheVariants.{Refused, Memory}
-use Rattle.ir_values.specs.declared.units.Form.{Form}
 use Rattle.ir_values.specs.declared.units.Unit.{Unit as TheUnit}
-use Rattle.ir_text.specs.Pieces.{Piece}
-use Rattle.ir_text.specs.Parts.{IsFront}
-use Rattle.ir_text.specs.Units.{IsForm, IsUnit, first_bytes}
-use Rattle.ir_text.specs.UnitReaders.{form, unit}
+use Rattle.std.specs.Prelude.{codes}
+use Rattle.unit_grammar.specs.Pieces.{Piece}
+use Rattle.unit_grammar.specs.Readers.{Read, found, absent, deep}
+use Rattle.unit_grammar.specs.Exact.{IsFront}
+use Rattle.unit_grammar.specs.Longest.{IsLongest}
+use Rattle.ir_text.specs.Units.{IsUnit, IsUnitWithin, IsTooDeep}
+use Rattle.ir_text.specs.UnitReaders.{unit_read}
 use Rattle.ir_text.specs.Reads.{StandsAt, IsNextUnit, NoUnit, ReadsTo, Reads}
-use Rattle.ir_text.specs.Laws.{UnitsEnd, StopsAgree}
-use Rattle.ir_text.specs.Reading.{Refuses, Lacks, IsAdded, Stops}
-use Rattle.ir_text.proofs.PartLaws.{Exact, map_gave, one_front}
-use Rattle.ir_text.proofs.StartLaws.{form_exact, no_form}
+use Rattle.ir_text.specs.Laws.{UnitsEnd, UnitsAreFlat, StopsAgree, NestsAgree, NestsNeverStop}
+use Rattle.ir_text.specs.Reading.{Refuses, Lacks, IsAdded, Stops, UnitsOf}
+use Rattle.ir_text.proofs.FormLaws.{unit_chosen}
 
--- no form is the text of nothing
-form_some : (a : Form) → IsForm [] a → ⊥
-form_some a is = let found = form_exact.finds [] [] a is in let none = no_form in cc
+-- what the reader of a unit finds
+found_flat : (ts rest : List Piece) (u : TheUnit) → unit_read ts ≡ found u rest → IsTooDeep ts → ⊥
+found_flat ts rest u e o = let d = unit_chosen.deepens ts o in cc
 
--- the first token of a form is that of what it stands in front of
-same_first : (front rest : List Piece) (a : Form) → IsForm front a → first_bytes (front ++ rest) ≡ first_bytes front
-same_first [] rest a is = absurd (form_some a is)
-same_first (t ∷ ts) rest a is = refl
-
-pub unit_exact : Exact IsUnit unit
-unfolding unit
-unit_exact = record {
-  sound = λ ts u rest e.
-      let (x, isx, same) = map_gave (λ (z : Form × List Piece). (record { first = first_bytes ts; form = z.0 }, z.1)) (form ts) (u, rest) e in
-      let f = form_exact.sound ts x.0 x.1 isx in
-      let first : first_bytes ts ≡ first_bytes f.front = ap first_bytes f.splits ∙ same_first f.front x.1 x.0 f.is in
-      subst (λ (z : TheUnit × List Piece). IsFront IsUnit ts z.0 z.1) same
-      (record { front = f.front; is = (f.is, first); splits = f.splits });
-  finds = λ front rest u (is, first).
-      let found = form_exact.finds front rest u.form is in
-      let same = same_first front rest u.form is in
-      rw (found, same, ← first) refl;
+next_unit : (ts rest : List Piece) (u : TheUnit) (place : Place) → unit_read ts ≡ found u rest → StandsAt ts place →
+    IsNextUnit ts (record { place = place; value = u }) rest
+next_unit ts rest u place e at = record {
+  longest = unit_chosen.longest ts u rest e;
+  place = at;
+  flat = found_flat ts rest u e;
 }
 
-unit_some : (u : TheUnit) → IsUnit [] u → ⊥
-unit_some u is = form_some u.form is.0
+absent_flat : (ts : List Piece) → unit_read ts ≡ absent → IsTooDeep ts → ⊥
+absent_flat ts e o = let d = unit_chosen.deepens ts o in cc
 
--- the units that a reader finds are the longest, and take a token
-longest_front : (front rest other after : List Piece) → rest ≡ after → front ++ rest ≡ other ++ after → length other ≤ length front
-longest_front front rest other after same e =
-    let lengths = ap length e in
-    let ends = ap length same in
-    omega (arith, simp length-append at lengths)
-
-pub next_unit : (ts rest : List Piece) (u : TheUnit) (place : Place) → unit ts ≡ Some (u, rest) → StandsAt ts place →
-    IsNextUnit ts (record { place = place; value = u }) rest
-next_unit ts rest u place e at =
-    let f = unit_exact.sound ts u rest e in
-    record {
-      front = f.front;
-      splits = f.splits;
-      is = f.is;
-      longest = λ other after v is splits.
-          let same = one_front IsUnit unit ts u v rest after unit_exact f (record { front = other; is = is; splits = splits }) in
-          longest_front f.front rest other after same.1 (sym f.splits ∙ splits);
-      place = at;
-    }
-
-pub no_unit : (ts : List Piece) → unit ts ≡ None → NoUnit ts
-no_unit ts none front rest u is splits = let found = unit_exact.finds front rest u is in cc
+no_unit : (ts : List Piece) → unit_read ts ≡ absent → NoUnit ts
+no_unit ts e = record { none = unit_chosen.none ts e; flat = absent_flat ts e }
 
 shorter : (front rest : List Piece) (u : TheUnit) → IsUnit front u → length rest < length (front ++ rest)
-shorter [] rest u is = absurd (unit_some u is)
+shorter [] rest u is = absurd (unit_chosen.some u is)
 shorter (t ∷ ts) rest u is = simp length-append (omega arith)
 
-pub unit_shorter : (ts rest : List Piece) (u : TheUnit) → unit ts ≡ Some (u, rest) → length rest < length ts
+unit_shorter : (ts rest : List Piece) (u : TheUnit) → unit_read ts ≡ found u rest → length rest < length ts
 unit_shorter ts rest u e =
-    let f = unit_exact.sound ts u rest e in
-    let less = shorter f.front rest u f.is in
-    subst (λ (z : List Piece). length rest < length z) (sym f.splits) less
+    let stands = (unit_chosen.longest ts u rest e).stands in
+    let less = shorter stands.front rest u (unit_chosen.within stands.front u stands.is) in
+    subst (λ (z : List Piece). length rest < length z) (sym stands.splits) less
 
 -- one more unit behind those that were read
 reads_more : (ts : List Piece) (us : List (Placed TheUnit)) (mid : List Piece) (u : Placed TheUnit) (rest : List Piece) →
@@ -91,30 +61,42 @@ ok_of (Err x) P e h = absurd cc
 
 -- the steps of the loop over units
 pub adds : (ts rest tail : List Piece) (t : Piece) (u : TheUnit) (old new : List (Placed TheUnit)) → ts ≡ t ∷ tail →
-    unit ts ≡ Some (u, rest) → new ≡ old ++ record { place = t.place; value = u } ∷ [] → IsAdded ts old new rest
-adds ts rest tail t u old new is found added =
+    unit_read ts ≡ found u rest → new ≡ old ++ record { place = t.place; value = u } ∷ [] → IsAdded ts old new rest
+adds ts rest tail t u old new is finds added =
     let stands : StandsAt ts t.place = subst (λ (z : List Piece). StandsAt z t.place) (sym is) refl in
     record {
       unit = record { place = t.place; value = u };
-      is = next_unit ts rest u t.place found stands;
+      is = next_unit ts rest u t.place finds stands;
       added = added;
-      shorter = unit_shorter ts rest u found;
+      shorter = unit_shorter ts rest u finds;
     }
 
 memory_lacks : (ts : List Piece) → Lacks ts Memory
 memory_lacks [] = tt
 memory_lacks (t ∷ ts) = tt
 
-pub lacks : (ts tail : List Piece) (t : Piece) (fault : Fault) → ts ≡ t ∷ tail → unit ts ≡ None → Refuses E02 t.place t.bytes fault → Lacks ts fault
+pub lacks : (ts tail : List Piece) (t : Piece) (fault : Fault) → ts ≡ t ∷ tail → unit_read ts ≡ absent → Refuses E02 t.place t.bytes fault → Lacks ts fault
 lacks ts tail t Memory is none refuses = memory_lacks ts
 lacks ts tail t (Refused refusal) is none refuses =
     subst (λ (z : List Piece). Lacks z (Refused refusal)) (sym is)
-    (subst (λ (z : List Piece). NoUnit z) is (no_unit ts none), refuses)
+    (inl (subst (λ (z : List Piece). NoUnit z) is (no_unit ts none), refuses))
+
+pub nests : (ts tail : List Piece) (t : Piece) (fault : Fault) → ts ≡ t ∷ tail → unit_read ts ≡ deep → Refuses E12 t.place (codes "nesting") fault → Lacks ts fault
+nests ts tail t Memory is e refuses = memory_lacks ts
+nests ts tail t (Refused refusal) is e refuses =
+    subst (λ (z : List Piece). Lacks z (Refused refusal)) (sym is)
+    (inr (subst (λ (z : List Piece). IsTooDeep z) is (unit_chosen.opened ts e), refuses))
 
 pub stops : (ts mid : List Piece) (us : List (Placed TheUnit)) (fault : Fault) → ReadsTo ts us mid → Lacks mid fault → Stops ts fault
 stops ts mid us Memory reads lacks = tt
 stops ts [] us (Refused refusal) reads lacks = absurd lacks
-stops ts (t ∷ tail) us (Refused refusal) reads lacks = (t, (us, tail, reads, lacks.0), lacks.1)
+stops ts (t ∷ tail) us (Refused refusal) reads (inl (none, is)) = (t, inl ((us, tail, reads, none), is))
+stops ts (t ∷ tail) us (Refused refusal) reads (inr (opened, is)) = (t, inr ((us, tail, reads, opened), is))
+
+pub stops_with : (ts mid : List Piece) (us : List (Placed TheUnit)) (r : Result (List (Placed TheUnit)) Fault) (fault : Fault) →
+    IsErrAnd r (λ f. f ≡ fault) → ReadsTo ts us mid → Lacks mid fault → UnitsOf ts r
+stops_with ts mid us (Ok x) fault is reads lacks = absurd is
+stops_with ts mid us (Err f) fault is reads lacks = stops ts mid us f reads (subst (λ (z : Fault). Lacks mid z) (sym is) lacks)
 
 pub adds_more : (ts mid rest : List Piece) (old new : List (Placed TheUnit)) → ReadsTo ts old mid → IsAdded mid old new rest → ReadsTo ts new rest
 adds_more ts mid rest old new reads added =
@@ -125,8 +107,8 @@ same_place : (ts : List Piece) (p q : Place) → StandsAt ts p → StandsAt ts q
 same_place [] p q a b = absurd a
 same_place (t ∷ ts) p q a b = a ∙ sym b
 
-front_of : (ts : List Piece) (u : Placed TheUnit) (rest : List Piece) → IsNextUnit ts u rest → IsFront IsUnit ts u.value rest
-front_of ts u rest h = record { front = h.front; is = h.is; splits = h.splits }
+front_of : (ts : List Piece) (u : TheUnit) (rest : List Piece) → IsLongest IsUnitWithin IsUnit ts u rest → IsFront IsUnit ts u rest
+front_of ts u rest h = record { front = h.stands.front; is = unit_chosen.within h.stands.front u h.stands.is; splits = h.stands.splits }
 
 placed : (u v : Placed TheUnit) → u.place ≡ v.place → u.value ≡ v.value → u ≡ v
 placed u v p q =
@@ -134,10 +116,21 @@ placed u v p q =
     let of : TheUnit → Placed TheUnit = λ z. record { place = v.place; value = z } in
     ap at p ∙ ap of q
 
+one_longest : (ts : List Piece) (u v : TheUnit) (rest after : List Piece) → IsLongest IsUnitWithin IsUnit ts u rest →
+    IsLongest IsUnitWithin IsUnit ts v after → (u ≡ v) × (rest ≡ after)
+one_longest ts u v rest after f g =
+    elim (f.longest v after (front_of ts v after g)) [
+      | inr same ↦ same
+      | inl less ↦ elim (g.longest u rest (front_of ts u rest f)) [
+        | inl more ↦ absurd (omega (arith, less, more))
+        | inr same ↦ (sym same.0, sym same.1)
+      ]
+    ]
+
 one_next : (ts : List Piece) (u v : Placed TheUnit) (rest after : List Piece) → IsNextUnit ts u rest → IsNextUnit ts v after →
     (u ≡ v) × (rest ≡ after)
 one_next ts u v rest after f g =
-    let same = one_front IsUnit unit ts u.value v.value rest after unit_exact (front_of ts u rest f) (front_of ts v after g) in
+    let same = one_longest ts u.value v.value rest after f.longest g.longest in
     (placed u v (same_place ts u.place v.place f.place g.place) same.0, same.1)
 
 no_next : (u : Placed TheUnit) (rest : List Piece) → IsNextUnit [] u rest → ⊥
@@ -152,26 +145,53 @@ one_reading ts (u ∷ us) (v ∷ vs) (f, first, more) (g, other, others) =
     let rest = one_reading f us vs more (subst (λ (z : List Piece). Reads z vs) (sym same.1) others) in
     cc
 
-no_stop : (ts : List Piece) (us vs : List (Placed TheUnit)) (t : Piece) (rest : List Piece) → Reads ts us → ReadsTo ts vs (t ∷ rest) → NoUnit (t ∷ rest) → ⊥
+-- tokens at which no unit is read
+abbrev Blocked : List Piece → Type 0
+Blocked ts = (u : Placed TheUnit) → (rest : List Piece) → IsNextUnit ts u rest → ⊥
+
+none_blocked : (ts : List Piece) → NoUnit ts → Blocked ts
+none_blocked ts h u rest next = h.none u.value rest (front_of ts u.value rest next.longest)
+
+deep_blocked : (ts : List Piece) → IsTooDeep ts → Blocked ts
+deep_blocked ts o u rest next = next.flat o
+
+no_stop : (ts : List Piece) (us vs : List (Placed TheUnit)) (t : Piece) (rest : List Piece) → Reads ts us → ReadsTo ts vs (t ∷ rest) → Blocked (t ∷ rest) → ⊥
 no_stop ts [] [] t rest a b none = absurd (cc (a, b))
 no_stop ts [] (v ∷ vs) t rest a (behind, first, more) none = no_next v behind (subst (λ (z : List Piece). IsNextUnit z v behind) a first)
-no_stop ts (u ∷ us) [] t rest (behind, first, more) b none =
-    none first.front behind u.value first.is (sym b ∙ first.splits)
+no_stop ts (u ∷ us) [] t rest (behind, first, more) b none = none u behind (subst (λ (z : List Piece). IsNextUnit z u behind) b first)
 no_stop ts (u ∷ us) (v ∷ vs) t rest (f, first, more) (g, other, others) none =
     let same = one_next ts u v f g first other in
     no_stop f us vs t rest more (subst (λ (z : List Piece). ReadsTo z vs (t ∷ rest)) (sym same.1) others) none
 
-one_stop : (ts : List Piece) (us vs : List (Placed TheUnit)) (t s : Piece) (rest after : List Piece) →
-    ReadsTo ts us (t ∷ rest) → NoUnit (t ∷ rest) → ReadsTo ts vs (s ∷ after) → NoUnit (s ∷ after) → t ≡ s
-one_stop ts [] [] t s rest after a none b other = cc
-one_stop ts [] (v ∷ vs) t s rest after a none (behind, first, more) other = absurd (none first.front behind v.value first.is (sym a ∙ first.splits))
-one_stop ts (u ∷ us) [] t s rest after (behind, first, more) none b other = absurd (other first.front behind u.value first.is (sym b ∙ first.splits))
-one_stop ts (u ∷ us) (v ∷ vs) t s rest after (f, first, more) none (g, second, others) other =
+one_stop : (ts : List Piece) (us vs : List (Placed TheUnit)) (mid end : List Piece) →
+    ReadsTo ts us mid → Blocked mid → ReadsTo ts vs end → Blocked end → mid ≡ end
+one_stop ts [] [] mid end a none b other = sym a ∙ b
+one_stop ts [] (v ∷ vs) mid end a none (behind, first, more) other = absurd (none v behind (subst (λ (z : List Piece). IsNextUnit z v behind) a first))
+one_stop ts (u ∷ us) [] mid end (behind, first, more) none b other = absurd (other u behind (subst (λ (z : List Piece). IsNextUnit z u behind) b first))
+one_stop ts (u ∷ us) (v ∷ vs) mid end (f, first, more) none (g, second, others) other =
     let same = one_next ts u v f g first second in
-    one_stop f us vs t s rest after more none (subst (λ (z : List Piece). ReadsTo z vs (s ∷ after)) (sym same.1) others) other
+    one_stop f us vs mid end more none (subst (λ (z : List Piece). ReadsTo z vs end) (sym same.1) others) other
+
+first_same : (t s : Piece) (rest after : List Piece) → t ∷ rest ≡ s ∷ after → t ≡ s
+first_same t s rest after e = cc
 
 pub stops_end : UnitsEnd
-stops_end ts us t reads (vs, rest, stops, none) = no_stop ts us vs t rest reads stops none
+stops_end ts us t reads (vs, rest, stops, none) = no_stop ts us vs t rest reads stops (none_blocked (t ∷ rest) none)
+
+pub nests_end : UnitsAreFlat
+nests_end ts us t reads (vs, rest, stops, o) = no_stop ts us vs t rest reads stops (deep_blocked (t ∷ rest) o)
 
 pub stops_once : StopsAgree
-stops_once ts t other (us, rest, stops, none) (vs, after, ends, nothing) = one_stop ts us vs t other rest after stops none ends nothing
+stops_once ts t other (us, rest, stops, none) (vs, after, ends, nothing) =
+    first_same t other rest after
+    (one_stop ts us vs (t ∷ rest) (other ∷ after) stops (none_blocked (t ∷ rest) none) ends (none_blocked (other ∷ after) nothing))
+
+pub nests_once : NestsAgree
+nests_once ts t other (us, rest, stops, o) (vs, after, ends, p) =
+    first_same t other rest after
+    (one_stop ts us vs (t ∷ rest) (other ∷ after) stops (deep_blocked (t ∷ rest) o) ends (deep_blocked (other ∷ after) p))
+
+pub nests_never : NestsNeverStop
+nests_never ts t other (us, rest, stops, o) (vs, after, ends, none) =
+    let same = one_stop ts us vs (t ∷ rest) (other ∷ after) stops (deep_blocked (t ∷ rest) o) ends (none_blocked (other ∷ after) none) in
+    none.flat (subst (λ (z : List Piece). IsTooDeep z) same o)

@@ -6,7 +6,6 @@ use Rattle.ir_lex.specs.declared.token.Token.{Token}
 use Rattle.ir_lex.specs.Languages.{IsOne, IsThen, IsRun}
 use Rattle.ir_lex.specs.Kinds.{Is}
 use Rattle.ir_lex.specs.Texts.{IsNext, TokensThen}
-use Rattle.ir_text.specs.Pieces.{AllWithin}
 
 one_some : (p : ℕ → Bool) (bytes : List ℕ) → IsOne p bytes → 0 < length bytes
 one_some p [] is = absurd is
@@ -69,8 +68,3 @@ pub tokens_last : (Last : ℕ → Type 0) (file : ℕ) (text : List ℕ) (from a
     TokensThen (λ a. a ≡ at) file text from ts → Last at → TokensThen Last file text from ts
 tokens_last Last file text from at [] e last = subst Last (sym e) last
 tokens_last Last file text from at (t ∷ ts) (first, more) last = (first, tokens_last Last file text t.end at ts more last)
-
-pub all_within : (Last : ℕ → Type 0) (file : ℕ) (text : List ℕ) (from : ℕ) (ts : List Token) → TokensThen Last file text from ts → AllWithin text ts
-all_within Last file text from [] all k other h = absurd (omega arith)
-all_within Last file text from (t ∷ ts) (first, more) zero other h = let s = next_stands file text from t first in (s.order, s.ends)
-all_within Last file text from (t ∷ ts) (first, more) (suc k) other h = all_within Last file text t.end ts more k other (omega arith)

@@ -1,6 +1,6 @@
 -- What `read_units` answers of a text.
 use Rattle.std.specs.Prelude.{◌≡◌, ℕ, ◌+◌, ◌/◌, ◌%◌, ◌<◌, ◌⊎◌, if◌then◌else◌, nat_lt, List, [], ◌∷◌, ◌++◌, length, slice_index, codes, Result, Ok, Err}
-use Rattle.ltt_base.specs.declared.refusal.Code.TheVariants.{E01, E02}
+use Rattle.ltt_base.specs.declared.refusal.Code.TheVariants.{E01, E02, E12}
 use Rattle.ltt_base.specs.declared.refusal.Refusal.{Refusal}
 use Rattle.ltt_base.specs.declared.refusal.Fault.{Fault}
 use Rattle.ltt_base.specs.declared.refusal.Fault.TheVariants.{Refused, Memory}
@@ -9,8 +9,8 @@ use Rattle.ir_values.specs.declared.units.Unit.{Unit as TheUnit}
 use Rattle.ir_lex.specs.declared.token.Token.{Token}
 use Rattle.ir_lex.specs.Places.{place_at}
 use Rattle.ir_lex.specs.Texts.{Tokens, IsStuckBehind}
-use Rattle.ir_text.specs.Pieces.{Piece, pieces}
-use Rattle.ir_text.specs.Reads.{Reads, StopsAt}
+use Rattle.unit_grammar.specs.Pieces.{Piece, pieces}
+use Rattle.ir_text.specs.Reads.{Reads, StopsAt, NestsAt}
 
 -- the text is these units
 pub record IsRead (file : ℕ) (text : List ℕ) (us : List (Placed TheUnit)) : Type 0 where
@@ -43,8 +43,16 @@ pub record IsNoUnit (file : ℕ) (text : List ℕ) (refusal : Refusal) : Type 0 
   pub stops : StopsAt (pieces text tokens) token
   pub is : refusal ≡ record { code = E02; place = token.place; word = token.bytes }
 
+-- the text has tokens, and at one of them, behind the units before it, too many levels are opened: the limit's refusal
+pub record IsNested (file : ℕ) (text : List ℕ) (refusal : Refusal) : Type 0 where
+  pub tokens : List Token
+  pub are : Tokens file text tokens
+  pub token : Piece
+  pub nests : NestsAt (pieces text tokens) token
+  pub is : refusal ≡ record { code = E12; place = token.place; word = codes "nesting" }
+
 abbrev pub IsRefused : ℕ → List ℕ → Refusal → Type 0
-IsRefused file text refusal = IsNoToken file text refusal ⊎ IsNoUnit file text refusal
+IsRefused file text refusal = IsNoToken file text refusal ⊎ (IsNoUnit file text refusal ⊎ IsNested file text refusal)
 
 abbrev pub Answers : ℕ → List ℕ → Result (List (Placed TheUnit)) Fault → Type 0
 Answers file text (Ok us) = IsRead file text us

@@ -3,8 +3,8 @@ use Rattle.std.specs.Prelude.{◌≡◌, ℕ, List}
 use Rattle.ltt_base.specs.declared.refusal.Refusal.{Refusal}
 use Rattle.ltt_base.specs.declared.refusal.Placed.{Placed}
 use Rattle.ir_values.specs.declared.units.Unit.{Unit as TheUnit}
-use Rattle.ir_text.specs.Pieces.{Piece}
-use Rattle.ir_text.specs.Reads.{Reads, StopsAt}
+use Rattle.unit_grammar.specs.Pieces.{Piece}
+use Rattle.ir_text.specs.Reads.{Reads, StopsAt, NestsAt}
 use Rattle.ir_text.specs.Answers.{IsRead, IsRefused}
 
 -- a list of tokens is at most one list of units
@@ -15,9 +15,21 @@ UnitsAgree = (ts : List Piece) (us vs : List (Placed TheUnit)) → Reads ts us �
 abbrev pub UnitsEnd : Type 0
 UnitsEnd = (ts : List Piece) (us : List (Placed TheUnit)) (t : Piece) → Reads ts us → StopsAt ts t → ⊥
 
+-- and nests nowhere too deep
+abbrev pub UnitsAreFlat : Type 0
+UnitsAreFlat = (ts : List Piece) (us : List (Placed TheUnit)) (t : Piece) → Reads ts us → NestsAt ts t → ⊥
+
 -- one that stops does so at one token
 abbrev pub StopsAgree : Type 0
 StopsAgree = (ts : List Piece) (t other : Piece) → StopsAt ts t → StopsAt ts other → t ≡ other
+
+-- one that nests too deep does so first at one token
+abbrev pub NestsAgree : Type 0
+NestsAgree = (ts : List Piece) (t other : Piece) → NestsAt ts t → NestsAt ts other → t ≡ other
+
+-- and doesn't stop
+abbrev pub NestsNeverStop : Type 0
+NestsNeverStop = (ts : List Piece) (t other : Piece) → NestsAt ts t → StopsAt ts other → ⊥
 
 -- a text has at most one list of units
 abbrev pub ReadingsAgree : Type 0

@@ -1,27 +1,28 @@
 -- The units of a list of tokens.
-use Rattle.std.specs.Prelude.{◌≡◌, ◌≤◌, List, [], ◌∷◌, ◌++◌, length}
+use Rattle.std.specs.Prelude.{◌≡◌, List, [], ◌∷◌}
 use Rattle.ltt_base.specs.declared.refusal.Place.{Place}
 use Rattle.ltt_base.specs.declared.refusal.Placed.{Placed}
 use Rattle.ir_values.specs.declared.units.Unit.{Unit as TheUnit}
-use Rattle.ir_text.specs.Pieces.{Piece}
-use Rattle.ir_text.specs.Units.{IsUnit}
+use Rattle.unit_grammar.specs.Pieces.{Piece}
+use Rattle.unit_grammar.specs.Longest.{IsLongest, NoneBegins}
+use Rattle.ir_text.specs.Units.{IsUnit, IsUnitWithin, IsTooDeep}
 
 -- the place of the first token
 abbrev pub StandsAt : List Piece → Place → Type 0
 StandsAt [] place = ⊥
 StandsAt (t ∷ ts) place = place ≡ t.place
 
--- The longest text of a unit at the front of the tokens: the unit, with the place of its first token, and the rest.
+-- The unit at the front of the tokens, with the place of its first token, and the rest. Of the texts of units with any
+-- number of levels its text is the longest, and it has no more levels than may be.
 pub record IsNextUnit (ts : List Piece) (u : Placed TheUnit) (rest : List Piece) : Type 0 where
-  pub front : List Piece
-  pub splits : ts ≡ front ++ rest
-  pub is : IsUnit front u.value
-  pub longest : (other after : List Piece) (unit : TheUnit) → IsUnit other unit → ts ≡ other ++ after → length other ≤ length front
+  pub longest : IsLongest IsUnitWithin IsUnit ts u.value rest
   pub place : StandsAt ts u.place
+  pub flat : IsTooDeep ts → ⊥
 
--- no text of a unit stands at the front of the tokens
-abbrev pub NoUnit : List Piece → Type 0
-NoUnit ts = (front rest : List Piece) (unit : TheUnit) → IsUnit front unit → ts ≡ front ++ rest → ⊥
+-- no text of a unit stands at the front of the tokens, with any number of levels
+pub record NoUnit (ts : List Piece) : Type 0 where
+  pub none : NoneBegins IsUnit ts
+  pub flat : IsTooDeep ts → ⊥
 
 -- the units stand in order at the front of the tokens, and the rest is left
 abbrev pub ReadsTo : List Piece → List (Placed TheUnit) → List Piece → Type 0
@@ -32,6 +33,14 @@ ReadsTo ts (u ∷ us) rest = (behind : List Piece) × IsNextUnit ts u behind × 
 abbrev pub Reads : List Piece → List (Placed TheUnit) → Type 0
 Reads ts us = ReadsTo ts us []
 
+-- behind some units, this token and those that follow it are so
+abbrev pub ReadsUpTo : (List Piece → Type 0) → List Piece → Piece → Type 0
+ReadsUpTo P ts t = (us : List (Placed TheUnit)) × (rest : List Piece) × ReadsTo ts us (t ∷ rest) × P (t ∷ rest)
+
 -- behind some units, no unit stands at this token
 abbrev pub StopsAt : List Piece → Piece → Type 0
-StopsAt ts t = (us : List (Placed TheUnit)) × (rest : List Piece) × ReadsTo ts us (t ∷ rest) × NoUnit (t ∷ rest)
+StopsAt = ReadsUpTo NoUnit
+
+-- behind some units, a unit that begins at this token opens too many levels
+abbrev pub NestsAt : List Piece → Piece → Type 0
+NestsAt = ReadsUpTo IsTooDeep

@@ -1,410 +1,442 @@
-ghost use Rattle.std.specs.Prelude.{◌≤◌, length};
-
 use crate::reading::read_units;
-use ir_values::{
-    Arg, Attach, Const, EndText, Form, Head, MetaItem, Operand, Param, Ty, Unit, Width,
-};
-use ltt_base::{Code, Fault, List, Place, Placed, Text};
-use std::alloc::Global;
-use std::process::Abort;
+use ir_lex::Lexer;
+use ir_values::{Form, Unit};
+use ltt_base::{Code, Fault, List, Placed, Refusal};
+use std::alloc::{AllocError, Global};
 use std::test::Fail;
 
-const FILE: &[u8] =
-    b"; one of each\n@a = constant [3 x i64] zeroinitializer, !type !7\n\ndefine i1 @\"f \\\\ g\"(ptr %0) {\n  %r = call i1 @llvm.type.test(ptr %0, metadata !\"T\\41\") ; test\n\tret i1 %r\r\n}\ndeclare i1 @\"llvm.type.test\"(ptr, metadata)\n!7=!{i64 18446744073709551615,!\"\"}";
+/// The longest text of a test, in bytes.
+const LIMIT: usize = 67_108_864;
 
-fn is(text: &Text, bytes: &[u8]) -> bool {
-    text.bytes() == bytes
-}
-
-fn stands_at(unit: &Placed<Unit>, line: u32, column: u32, first: &[u8]) -> bool {
-    let place = unit.place;
-    place.file == 1 && place.line == line && place.column == column && is(&unit.value.first, first)
-}
-
-fn is_named(name: &Option<Text>, bytes: &[u8]) -> bool {
-    match name {
-        Some(found) => is(found, bytes),
-        None => false,
+fn read(alloc: Global, text: &[u8]) -> Result<List<Placed<Unit>>, Fault> {
+    if text.len() > LIMIT {
+        return Err(Fault::Memory);
     }
+    read_units(alloc, text, 9)
 }
 
-fn is_int(ty: &Ty, width: Width) -> bool {
-    match ty {
-        Ty::Int(found) => *found as u8 == width as u8,
+fn is(refusal: &Refusal, code: Code, line: u32, column: u32, word: &str) -> bool {
+    refusal.code as u8 == code as u8
+        && refusal.place.file == 9
+        && refusal.place.line == line
+        && refusal.place.column == column
+        && refusal.word.bytes() == word.as_bytes()
+}
+
+fn is_refused(alloc: Global, text: &str, code: Code, line: u32, column: u32, word: &str) -> bool {
+    match read(alloc, text.as_bytes()) {
+        Err(Fault::Refused(refusal)) => is(&refusal, code, line, column, word),
         _ => false,
     }
 }
 
-fn is_pointer(ty: &Ty) -> bool {
-    matches!(ty, Ty::Ptr)
-}
-
-fn is_words(ty: &Ty, length: u64) -> bool {
-    match ty {
-        Ty::Array(found, part) => *found == length && is_int(part.get(), Width::W64),
-        _ => false,
+fn has_units(alloc: Global, text: &str, count: usize) -> bool {
+    match read(alloc, text.as_bytes()) {
+        Ok(units) => units.len() == count,
+        Err(_) => false,
     }
 }
 
-fn is_zero(constant: &Const, length: u64) -> bool {
-    match constant {
-        Const::Zero(ty) => is_words(ty, length),
-        _ => false,
-    }
-}
-
-fn is_zero_initialiser(init: &Option<Const>, length: u64) -> bool {
-    match init {
-        Some(constant) => is_zero(constant, length),
-        None => false,
-    }
-}
-
-fn is_register(operand: &Operand, name: &[u8]) -> bool {
-    match operand {
-        Operand::Reg(found) => is(found, name),
-        _ => false,
-    }
-}
-
-fn is_address(constant: &Const, name: &[u8]) -> bool {
-    match constant {
-        Const::Addr(found, offset) => is(found, name) && *offset == 0,
-        _ => false,
-    }
-}
-
-fn is_callee(operand: &Operand, name: &[u8]) -> bool {
-    match operand {
-        Operand::Const(constant) => is_address(constant, name),
-        _ => false,
-    }
-}
-
-fn is_type_node(attached: &List<Attach>, node: &[u8]) -> bool {
-    match attached.items() {
-        [attach] => is(&attach.kind, b"type") && is(&attach.node, node),
-        _ => false,
-    }
-}
-
-fn is_variable(form: &Form, named: &[u8], length: u64, node: &[u8]) -> bool {
-    match form {
-        Form::VariableForm {
-            name,
-            linkage,
-            constant,
-            ty,
-            init,
-            align,
-            attached,
-        } => {
-            is(name, named)
-                && linkage.is_none()
-                && *constant
-                && is_words(ty, length)
-                && is_zero_initialiser(init, length)
-                && align.is_none()
-                && is_type_node(attached, node)
-        }
-        _ => false,
-    }
-}
-
-fn is_head(head: &Head, name: &[u8]) -> bool {
-    is(&head.name, name)
-        && head.linkage.is_none()
-        && is_int(&head.result, Width::W1)
-        && !head.dots
-        && head.left.is_empty()
-        && head.attached.is_empty()
-}
-
-fn is_pointer_named(param: &Param, name: &[u8]) -> bool {
-    is_pointer(&param.ty) && param.left.is_empty() && is_named(&param.name, name)
-}
-
-fn is_define(form: &Form, name: &[u8], pointer: &[u8]) -> bool {
-    match form {
-        Form::DefineForm { head } => match head.params.items() {
-            [param] => is_head(head, name) && is_pointer_named(param, pointer),
-            _ => false,
-        },
-        _ => false,
-    }
-}
-
-fn is_left(ty: &Ty, text: &[u8]) -> bool {
-    match ty {
-        Ty::Left(found) => is(found, text),
-        _ => false,
-    }
-}
-
-fn is_unnamed(param: &Param) -> bool {
-    param.left.is_empty() && param.name.is_none()
-}
-
-fn is_declare(form: &Form, name: &[u8]) -> bool {
-    match form {
-        Form::DeclareForm { head } => match head.params.items() {
-            [first, second] => {
-                is_head(head, name)
-                    && is_pointer(&first.ty)
-                    && is_unnamed(first)
-                    && is_left(&second.ty, b"metadata")
-                    && is_unnamed(second)
-            }
-            _ => false,
-        },
-        _ => false,
-    }
-}
-
-fn is_tested(arg: &Arg, pointer: &[u8]) -> bool {
-    match arg {
-        Arg::Value { ty, left, value } => {
-            is_pointer(ty) && left.is_empty() && is_register(value, pointer)
-        }
-        _ => false,
-    }
-}
-
-fn is_word(arg: &Arg, id: &[u8]) -> bool {
-    match arg {
-        Arg::Word(word) => is(word, id),
-        _ => false,
-    }
-}
-
-fn are_arguments(args: &List<Arg>, pointer: &[u8], id: &[u8]) -> bool {
-    match args.items() {
-        [tested, word] => is_tested(tested, pointer) && is_word(word, id),
-        _ => false,
-    }
-}
-
-fn is_test(form: &Form, name: &[u8], pointer: &[u8], id: &[u8]) -> bool {
-    match form {
-        Form::CallForm {
-            dst,
-            result,
-            whole,
-            dots,
-            callee,
-            args,
-            bundle,
-        } => {
-            is_named(dst, name)
-                && is_int(result, Width::W1)
-                && whole.is_none()
-                && !*dots
-                && is_callee(callee, b"llvm.type.test")
-                && are_arguments(args, pointer, id)
-                && !*bundle
-        }
-        _ => false,
-    }
-}
-
-fn is_end(text: &EndText, name: &[u8]) -> bool {
-    match text {
-        EndText::Ret { ty, value } => is_int(ty, Width::W1) && is_register(value, name),
-        _ => false,
-    }
-}
-
-fn is_return(form: &Form, name: &[u8]) -> bool {
-    match form {
-        Form::EndForm { text } => is_end(text, name),
-        _ => false,
-    }
-}
-
-fn is_number(constant: &Const, number: u64) -> bool {
-    match constant {
-        Const::Int(width, found) => *width as u8 == Width::W64 as u8 && *found == number,
-        _ => false,
-    }
-}
-
-fn is_offset(item: &MetaItem, number: u64) -> bool {
-    match item {
-        MetaItem::Const(ty, constant) => is_int(ty, Width::W64) && is_number(constant, number),
-        _ => false,
-    }
-}
-
-fn is_string(item: &MetaItem, id: &[u8]) -> bool {
-    match item {
-        MetaItem::Word(word) => is(word, id),
-        _ => false,
-    }
-}
-
-fn is_entry(form: &Form, named: &[u8], offset: u64, id: &[u8]) -> bool {
-    match form {
-        Form::MetadataForm {
-            name,
-            distinct,
-            items,
-        } => match items.items() {
-            [first, second] => {
-                is(name, named) && !*distinct && is_offset(first, offset) && is_string(second, id)
-            }
-            _ => false,
-        },
-        _ => false,
-    }
-}
-
-#[test]
-fn each_form_is_read(rt: HostRuntime) -> Result<(), Fail> {
-    let units = read_units(rt.alloc(), FILE, 1)?;
-    let items = units.items();
-    assert_eq!(rt; items.len(), 7);
-    assert!(rt; stands_at(&items[0], 2, 1, b"@a"));
-    assert!(rt; is_variable(&items[0].value.form, b"a", 3, b"7"));
-    assert!(rt; stands_at(&items[1], 4, 1, b"define"));
-    assert!(rt; is_define(&items[1].value.form, b"f \\ g", b"0"));
-    assert!(rt; stands_at(&items[2], 5, 3, b"%r"));
-    assert!(rt; is_test(&items[2].value.form, b"r", b"0", b"TA"));
-    assert!(rt; stands_at(&items[3], 6, 2, b"ret"));
-    assert!(rt; is_return(&items[3].value.form, b"r"));
-    assert!(rt; stands_at(&items[4], 7, 1, b"}"));
-    assert!(rt; matches!(items[4].value.form, Form::CloseForm));
-    assert!(rt; stands_at(&items[5], 8, 1, b"declare"));
-    assert!(rt; is_declare(&items[5].value.form, b"llvm.type.test"));
-    assert!(rt; stands_at(&items[6], 9, 1, b"!7"));
-    assert!(rt; is_entry(&items[6].value.form, b"7", 18446744073709551615, b""));
-    Ok(())
-}
-
-const ADDRESSES: &[u8] =
-    b"define i1 @m() {\n%r = call i1 @llvm.type.test(ptr @v, metadata !\"T\")\n%s = call i1 @llvm.type.test(ptr getelementptr (i8, ptr @v, i64 16), metadata !\"T\")";
-
-fn is_bare_define(form: &Form, name: &[u8]) -> bool {
-    match form {
-        Form::DefineForm { head } => is_head(head, name) && head.params.is_empty(),
-        _ => false,
-    }
-}
-
-fn tested(form: &Form) -> Option<&Operand> {
-    match form {
-        Form::CallForm { args, .. } => match args.items() {
-            [Arg::Value { value, .. }, _] => Some(value),
-            _ => None,
-        },
-        _ => None,
-    }
-}
-
-fn is_global(operand: Option<&Operand>, name: &[u8]) -> bool {
-    match operand {
-        Some(found) => is_callee(found, name),
-        None => false,
-    }
-}
-
-fn is_index(index: &List<Operand>, offset: u64) -> bool {
-    match index.items() {
-        [Operand::Const(Const::Typed(ty, number))] => {
-            is_int(ty, Width::W64) && is_number(number.get(), offset)
-        }
-        _ => false,
-    }
-}
-
-fn is_moved(operand: Option<&Operand>, name: &[u8], offset: u64) -> bool {
-    match operand {
-        Some(Operand::Const(Const::Gep(ty, base, index))) => {
-            is_int(ty, Width::W8) && is_address(base.get(), name) && is_index(index, offset)
-        }
-        _ => false,
-    }
-}
-
-#[test]
-fn a_function_without_parameters_tests_an_address(rt: HostRuntime) -> Result<(), Fail> {
-    let units = read_units(rt.alloc(), ADDRESSES, 1)?;
-    let items = units.items();
-    assert_eq!(rt; items.len(), 3);
-    assert!(rt; is_bare_define(&items[0].value.form, b"m"));
-    assert!(rt; is_global(tested(&items[1].value.form), b"v"));
-    assert!(rt; is_moved(tested(&items[2].value.form), b"v", 16));
-    Ok(())
-}
-
-#[test]
-fn blanks_and_comments_are_no_units(rt: HostRuntime) -> Result<(), Fail> {
-    assert!(rt; read_units(rt.alloc(), b"", 1)?.is_empty());
-    assert!(rt; read_units(rt.alloc(), b" \t\r\n; \xff\n;", 1)?.is_empty());
-    Ok(())
-}
-
-fn is_refused(alloc: Global, text: &[u8], code: Code, line: u32, column: u32, word: &[u8]) -> bool
-    requires { length text.now ≤ 67_108_864 }
-{
-    match read_units(alloc, text, 9) {
+/// `u` where a text of one line is read whole, else the number of the token that is refused: a digit, or a letter from 10 on.
+fn answer(alloc: Global, text: &[u8], starts: &[u32]) -> u8 {
+    match read(alloc, text) {
+        Ok(_) => b'u',
         Err(Fault::Refused(refusal)) => {
-            refusal.code as u8 == code as u8
-                && refusal.place.file == 9
-                && refusal.place.line == line
-                && refusal.place.column == column
-                && is(&refusal.word, word)
+            if refusal.code as u8 == Code::E02 as u8 {
+                token_name(starts, refusal.place.column)
+            } else {
+                b'?'
+            }
         }
-        _ => false,
+        Err(Fault::Memory) => b'?',
+    }
+}
+
+fn token_name(starts: &[u32], column: u32) -> u8 {
+    let mut name = b'0';
+    for start in starts {
+        if *start == column {
+            return name;
+        }
+        name = if name == b'9' {
+            b'a'
+        } else {
+            name.wrapping_add(1)
+        };
+    }
+    b'?'
+}
+
+/// What is answered of a line that is cut behind each of its tokens.
+fn answers(alloc: Global, line: &[u8]) -> Result<Vec<u8>, AllocError> {
+    let mut given = Vec::new(alloc);
+    let mut starts = Vec::new(alloc);
+    if line.len() > 1000 {
+        return Ok(given);
+    }
+    let mut lexer = Lexer::new(line, 9);
+    for _ in 0..line.len() {
+        match lexer.next() {
+            Ok(Some(token)) => {
+                starts.push(token.place.column)?;
+                let cut = line.get(..token.end).unwrap_or(line);
+                given.push(answer(alloc, cut, starts.as_slice()))?;
+            }
+            _ => return Ok(given),
+        }
+    }
+    Ok(given)
+}
+
+fn is_cut(alloc: Global, line: &str, given: &str) -> Result<bool, AllocError> {
+    Ok(answers(alloc, line.as_bytes())?.as_slice() == given.as_bytes())
+}
+
+#[test]
+fn lines_of_modules_are_cut(rt: HostRuntime) -> Result<(), Fail> {
+    for (line, given) in [
+        ("source_filename = \"a.c\"", "00u"),
+        ("target datalayout = \"e\"", "000u"),
+        ("target triple = \"x\"", "000u"),
+        ("%T = type { ptr, i8 }", "0000000u"),
+        ("%T = type opaque", "000u"),
+        ("$c = comdat any", "000u"),
+        ("attributes #0 = { nounwind \"k\"=\"v\" }", "00000000u"),
+        ("entry:", "u"),
+        ("}", "u"),
+        (
+            "!0 = distinct !{i64 16, !\"T\", !1, null, !{}}",
+            "00000000000000000u",
+        ),
+        ("!llvm.ident = !{!0}", "00000u"),
+        ("^0 = module: (path: \"a\")", "0uuuuuu"),
+        ("jumptable @t align 8 { @f, @g }", "uuuuuuuuu"),
+    ] {
+        assert!(rt; is_cut(rt.alloc(), line, given)?, "{line}");
+    }
+    Ok(())
+}
+
+#[test]
+fn items_are_cut(rt: HostRuntime) -> Result<(), Fail> {
+    for (line, given) in [
+        (
+            "@a = private constant [2 x i8] c\"ab\", section \"s\", comdat($c), align 8, !type !0",
+            "00000000uuaauduffuiiullu",
+        ),
+        ("@a = external global ptr, align 8", "0000u55u"),
+        (
+            "declare !dbg !3 private noundef i32 @f(ptr noundef %p, metadata, ...) nounwind #0",
+            "000000000000000uuu",
+        ),
+        (
+            "define weak i1 @f() align 8 personality ptr @p !type !0 {",
+            "0000000000000u",
+        ),
+    ] {
+        assert!(rt; is_cut(rt.alloc(), line, given)?, "{line}");
+    }
+    Ok(())
+}
+
+#[test]
+fn operations_are_cut(rt: HostRuntime) -> Result<(), Fail> {
+    for (line, given) in [
+        ("%r = add nsw i32 %a, 1, !dbg !7", "0000000u88u"),
+        ("%c = icmp samesign ult ptr %a, null", "00000000u"),
+        ("%s = select i1 %c, i8 1, i8 2", "0000000000u"),
+        ("%z = zext nneg i8 %a to i64", "0000000u"),
+        (
+            "%g = getelementptr inbounds [2 x i8], ptr %p, i64 0, i32 1",
+            "00000000000uccuffu",
+        ),
+        ("%l = load i32, ptr %p, align 4, !tbaa !5", "000000u77uaau"),
+        ("store i32 1, ptr %p, align 4", "00000u66u"),
+        ("%e = extractvalue { ptr, i1 } %c, 1", "0000000000u"),
+        ("%x = phi i32 [ 1, %a ], [ %y, %b ]", "00000000u99999u"),
+    ] {
+        assert!(rt; is_cut(rt.alloc(), line, given)?, "{line}");
+    }
+    Ok(())
+}
+
+#[test]
+fn calls_and_branches_are_cut(rt: HostRuntime) -> Result<(), Fail> {
+    for (line, given) in [
+        (
+            "%r = tail call fastcc noundef i32 @f(ptr noundef %p, metadata !\"T\") nounwind [ \"x\"() ] #1, !range !9",
+            "000000000000000uuhhhhuunnu",
+        ),
+        ("call i32 (ptr, ...) @f(ptr %p)", "00000000000u"),
+        ("br label %a", "00u"),
+        ("br i1 %c, label %a, label %b", "00000000u"),
+        (
+            "switch i32 %x, label %a [ i32 0, label %b i32 1, label %c ]",
+            "00000000000000000u",
+        ),
+        ("ret void", "0u"),
+        ("ret i32 7", "00u"),
+        ("ret void %x", "0uu"),
+        ("unreachable", "u"),
+    ] {
+        assert!(rt; is_cut(rt.alloc(), line, given)?, "{line}");
+    }
+    Ok(())
+}
+
+#[test]
+fn what_is_left_out_goes_on_to_the_end_of_its_line(rt: HostRuntime) -> Result<(), Fail> {
+    for (line, given) in [
+        ("%n = ptrtoint ptr %p to i64", "00uuuuu"),
+        ("%a = alloca i32, align 4", "00uuuuu"),
+        ("@x = hidden alias i32, ptr @y", "000uuuuu"),
+        ("%v = load volatile i32, ptr %p", "000uuuuu"),
+        ("!4 = distinct !DILocation(line: 1)", "0000uuuu"),
+        ("#dbg_value(i32 1)", "uuuuu"),
+    ] {
+        assert!(rt; is_cut(rt.alloc(), line, given)?, "{line}");
+    }
+    Ok(())
+}
+
+/// The text of the unit, or nothing where there isn't just one.
+fn form_word(units: &List<Placed<Unit>>) -> &str {
+    match units.items() {
+        [unit] => match &unit.value.form {
+            Form::NumberForm { .. } => "number",
+            Form::TableForm { .. } => "table",
+            Form::LeftForm { .. } => "left",
+            _ => "other",
+        },
+        _ => "",
+    }
+}
+
+fn is_form(alloc: Global, text: &str, word: &str) -> bool {
+    match read(alloc, text.as_bytes()) {
+        Ok(units) => form_word(&units) == word,
+        Err(_) => false,
     }
 }
 
 #[test]
-fn a_byte_at_which_no_token_begins_is_refused(rt: HostRuntime) {
+fn the_longer_of_two_forms_stands(rt: HostRuntime) {
     let alloc = rt.alloc();
-    assert!(rt; is_refused(alloc, b"@a = global i32 0 ?", Code::E01, 1, 19, b"0x3F"));
-    assert!(rt; is_refused(alloc, b"}\n;?\n  \xff}", Code::E01, 3, 3, b"0xFF"));
-    assert!(rt; is_refused(alloc, b"@\"a", Code::E01, 1, 1, b"0x40"));
-    assert!(rt; is_refused(alloc, b"\"\n\" \x0b", Code::E01, 2, 3, b"0x0B"));
+    assert!(rt; is_form(alloc, "%n = ptrtoint ptr %p to i64", "number"));
+    assert!(rt; is_form(alloc, "%n = ptrtoint ptr %p to i64, !dbg !1", "number"));
+    assert!(rt; is_form(alloc, "%n = ptrtoint ptr %p to i32", "left"));
+    assert!(rt; is_form(alloc, "%n = ptrtoint ptr %p to i64 x", "left"));
+    assert!(rt; is_form(alloc, "%n = ptrtoint ptr\n to i64", "left"));
+    assert!(rt; is_form(alloc, "%n = ptrtoint ptr %p\n to i64", "number"));
+    assert!(rt; is_form(alloc, "jumptable @t align 8 { @f }", "table"));
+    assert!(rt; is_form(alloc, "jumptable @t align 16 { @f }", "left"));
+    assert!(rt; is_form(alloc, "ret void %x", "other"));
+}
+
+/// `front` a number of times, then a text.
+fn nested(
+    alloc: Global,
+    head: &str,
+    front: &str,
+    times: usize,
+    text: &str,
+    back: &str,
+) -> Result<String, AllocError> {
+    let mut whole = String::from_str(alloc, head)?;
+    for _ in 0..times {
+        whole.push_str(front)?;
+    }
+    whole.push_str(text)?;
+    for _ in 0..times {
+        whole.push_str(back)?;
+    }
+    Ok(whole)
 }
 
 #[test]
-fn a_token_at_which_no_unit_begins_is_refused(rt: HostRuntime) {
+fn sixty_four_levels_are_read(rt: HostRuntime) -> Result<(), Fail> {
     let alloc = rt.alloc();
-    assert!(rt; is_refused(alloc, b"@a = global i32 0", Code::E02, 1, 1, b"@a"));
-    assert!(rt; is_refused(alloc, b"} ; x\n}\n  \"x\" }", Code::E02, 3, 3, b"\"x\""));
-    assert!(rt; is_refused(alloc, b"!1 = !{i64 -8, !\"T\"}", Code::E02, 1, 1, b"!1"));
-    assert!(rt; is_refused(alloc, b"!1 = !{i64 08, !\"T\"}", Code::E02, 1, 1, b"!1"));
+    for (head, front, times, text, back) in [
+        ("@a = external global ", "[1 x ", 63, "i8", "]"),
+        ("@a = external global ", "{ ", 63, "i8", " }"),
+        ("!0 = !{", "!{ ", 64, "!1}", "}"),
+    ] {
+        let whole = nested(alloc, head, front, times, text, back)?;
+        assert!(rt; has_units(alloc, whole.as_str(), 1), "{head}");
+        let deep = nested(alloc, head, front, times + 1, text, back)?;
+        assert!(rt;
+            is_refused(alloc, deep.as_str(), Code::E12, 1, 1, "nesting"),
+            "{head}"
+        );
+    }
+    Ok(())
+}
+
+#[test]
+fn a_number_with_too_many_levels_is_left_out(rt: HostRuntime) -> Result<(), Fail> {
+    let alloc = rt.alloc();
+    let head = "%n = ptrtoint ptr ";
+    let flat = nested(alloc, head, "getelementptr (i8, ptr ", 63, "@a", ", i8 0)")?;
+    let deep = nested(alloc, head, "getelementptr (i8, ptr ", 64, "@a", ", i8 0)")?;
+    assert!(rt;
+        is_form(
+            alloc,
+            nested(alloc, flat.as_str(), "", 0, " to i64", "")?.as_str(),
+            "number"
+        )
+    );
+    assert!(rt;
+        is_form(
+            alloc,
+            nested(alloc, deep.as_str(), "", 0, " to i64", "")?.as_str(),
+            "left"
+        )
+    );
+    Ok(())
+}
+
+fn is_refused_repeated(
+    alloc: Global,
+    head: &str,
+    part: &str,
+    code: Code,
+    word: &str,
+) -> Result<bool, AllocError> {
+    let long = nested(alloc, head, part, 100_000, "", "")?;
+    match read(alloc, long.as_bytes()) {
+        Err(Fault::Refused(refusal)) => {
+            Ok(refusal.code as u8 == code as u8 && refusal.word.bytes() == word.as_bytes())
+        }
+        _ => Ok(false),
+    }
+}
+
+#[test]
+fn hostile_texts_are_refused(rt: HostRuntime) -> Result<(), Fail> {
+    let alloc = rt.alloc();
+    assert!(rt; is_refused_repeated(alloc, "@a = global i8 ", "[", Code::E02, "[")?);
+    assert!(rt; is_refused_repeated(alloc, "@a = global ", "[1 x ", Code::E12, "nesting")?);
+    assert!(rt; is_refused_repeated(alloc, "!0 = ", "!{", Code::E12, "nesting")?);
+    assert!(rt; is_refused_repeated(alloc, "@a = \"", "x ", Code::E01, "0x22")?);
+    Ok(())
+}
+
+#[test]
+fn refusals_stand_at_their_places(rt: HostRuntime) {
+    let alloc = rt.alloc();
+    assert!(rt; is_refused(alloc, "@a = global i32 0 ?", Code::E01, 1, 19, "0x3F"));
+    assert!(rt; is_refused(alloc, "@\"0\" = global i32 0", Code::E01, 1, 1, "0x40"));
+    assert!(rt; is_refused(alloc, "}\n;?\n  \u{ff}}", Code::E01, 3, 3, "0xC3"));
+    assert!(rt; is_refused(alloc, "} ; x\n}\n  \"x\" }", Code::E02, 3, 3, "\"x\""));
     assert!(rt;
         is_refused(
             alloc,
-            b"!1 = !{i64 18446744073709551616, !\"T\"}",
+            "define void @f(i32 %x) {\n  switch i32 %x, label %a [\n    i32 0, label\n",
             Code::E02,
-            1,
-            1,
-            b"!1"
+            2,
+            3,
+            "switch"
         )
     );
-    assert!(rt; is_refused(alloc, b"!x = !{i64 8, !\"T\"}", Code::E02, 1, 1, b"!x"));
-    assert!(rt; is_refused(alloc, b"} ret i1 @r", Code::E02, 1, 3, b"ret"));
-    assert!(rt;
-        is_refused(
-            alloc,
-            b"declare i1 @llvm.type.tests(ptr, metadata)",
-            Code::E02,
-            1,
-            1,
-            b"declare"
-        )
-    );
-    assert!(rt;
-        is_refused(
-            alloc,
-            b"define i1 @f(ptr %p, ptr %q) {",
-            Code::E02,
-            1,
-            1,
-            b"define"
-        )
-    );
-    assert!(rt; is_refused(alloc, b"ret i1 %r %s", Code::E02, 1, 11, b"%s"));
+    assert!(rt; is_refused(alloc, "ret void\n%x = add i8 1, 1", Code::E02, 2, 4, "="));
+    assert!(rt; is_refused(alloc, "@x = global [0 x i8] []", Code::E02, 1, 22, "["));
+    assert!(rt; has_units(alloc, "", 0));
+    assert!(rt; has_units(alloc, " \t\r\n; x\n;", 0));
+}
+
+/// What clang writes of a class with a virtual call.
+const VIRTUAL_CALL: &str = "\
+; ModuleID = 'a.cpp'
+source_filename = \"a.cpp\"
+target datalayout = \"e-m:e-p270:32:32-p271:32:32-p272:64:64-i64:64-i128:128-f80:128-n8:16:32:64-S128\"
+target triple = \"x86_64-unknown-linux-gnu\"
+%class.A = type { ptr }
+@_ZTV1A = hidden unnamed_addr constant { [3 x ptr] } { [3 x ptr] [ptr null, ptr null, ptr @_ZN1A1fEv] }, align 8, !type !0, !type !1, !vcall_visibility !2
+@a = hidden global %class.A { ptr getelementptr inbounds inrange(-16, 8) ({ [3 x ptr] }, ptr @_ZTV1A, i32 0, i32 0, i32 2) }, align 8
+; Function Attrs: mustprogress nounwind
+define hidden noundef i32 @_ZN1A1fEv(ptr nocapture noundef nonnull readnone align 8 dereferenceable(8) %this) unnamed_addr #0 align 2 {
+entry:
+  ret i32 7
+}
+define hidden noundef i32 @_Z4callP1A(ptr noundef %a) local_unnamed_addr #0 {
+entry:
+  %vtable = load ptr, ptr %a, align 8, !tbaa !5
+  %0 = tail call i1 @llvm.type.test(ptr %vtable, metadata !\"_ZTS1A\")
+  tail call void @llvm.assume(i1 %0)
+  %1 = load ptr, ptr %vtable, align 8
+  %call = tail call noundef i32 %1(ptr noundef nonnull align 8 dereferenceable(8) %a)
+  ret i32 %call
+}
+declare i1 @llvm.type.test(ptr, metadata) #1
+declare void @llvm.assume(i1 noundef) #1
+attributes #0 = { mustprogress nounwind \"target-cpu\"=\"x86-64\" }
+!llvm.module.flags = !{!3}
+!0 = !{i64 16, !\"_ZTS1A\"}
+!2 = !{i64 1}
+!3 = !{i32 1, !\"wchar_size\", i32 4}
+!5 = !{!6, !6, i64 0}
+!7 = !{!\"Simple C++ TBAA\"}
+";
+
+/// Tests, a checked load, a trap and branches.
+const CHECKED_LOAD: &str = "\
+@va = constant [1 x ptr] [ptr @f], !type !0, !vcall_visibility !1
+@slot = external global ptr
+define i32 @f(ptr %this) !type !2 {
+  ret i32 1
+}
+define i32 @main() {
+  %c = call { ptr, i1 } @llvm.type.checked.load(ptr @vb, i32 0, metadata !\"T\")
+  %ok = extractvalue { ptr, i1 } %c, 1
+  br i1 %ok, label %go, label %bad
+go:
+  %fp = extractvalue { ptr, i1 } %c, 0
+  %r = call i32 %fp(ptr null)
+  ret i32 %r
+bad:
+  call void @llvm.trap()
+  unreachable
+}
+declare { ptr, i1 } @llvm.type.checked.load(ptr, i32, metadata)
+declare void @llvm.trap()
+!0 = !{i64 0, !\"T\"}
+";
+
+/// A loop, as it is optimised.
+const LOOP: &str = "\
+$_ZTV5Shape = comdat any
+@_ZTV5Shape = linkonce_odr hidden unnamed_addr constant { [4 x ptr] } zeroinitializer, comdat, align 8, !type !0
+@.str = private unnamed_addr constant [7 x i8] c\"square\\00\", align 1
+define hidden noundef i64 @_Z5totalPP5Shapem(ptr nocapture noundef readonly %shapes, i64 noundef %n) local_unnamed_addr #1 {
+entry:
+  %cmp.not = icmp eq i64 %n, 0
+  br i1 %cmp.not, label %for.end, label %for.body
+
+for.body:                                         ; preds = %for.body, %entry
+  %i.07 = phi i64 [ %inc, %for.body ], [ 0, %entry ]
+  %arrayidx = getelementptr inbounds ptr, ptr %shapes, i64 %i.07
+  %0 = load ptr, ptr %arrayidx, align 8, !tbaa !8
+  %call = tail call noundef i32 %0(ptr noundef nonnull align 8 dereferenceable(8) %0)
+  %conv = sext i32 %call to i64
+  %inc = add nuw i64 %i.07, 1
+  store i64 %conv, ptr @count, align 8, !tbaa !14
+  br i1 %cmp.not, label %for.end, label %for.body, !llvm.loop !12
+
+for.end:                                          ; preds = %for.body, %entry
+  switch i64 %n, label %for.end [
+    i64 0, label %for.body
+    i64 1, label %entry
+  ]
+  %x = alloca i32, align 4
+  ret i64 0
+}
+!12 = distinct !{!12, !13}
+!20 = distinct !DISubprogram(name: \"main\", scope: !1, line: 3)
+";
+
+#[test]
+fn texts_of_compilers_are_read_whole(rt: HostRuntime) {
+    for (text, count) in [(VIRTUAL_CALL, 28), (CHECKED_LOAD, 20), (LOOP, 23)] {
+        assert!(rt; has_units(rt.alloc(), text, count), "{text}");
+    }
 }

@@ -150,7 +150,7 @@ declare i1 @llvm.type.test(ptr, metadata)
 !0 = !{i64 16, !\"T\"}
 ";
 
-/// A head with two parameters is no unit.
+/// A head with two parameters is none of a thin file.
 const TWO_PARAMETERS: &str = "\
 @a = constant [4 x i64] zeroinitializer, !type !0
 define i1 @t(ptr %p, ptr %q) {
@@ -159,6 +159,24 @@ define i1 @t(ptr %p, ptr %q) {
 }
 declare i1 @llvm.type.test(ptr, metadata)
 !0 = !{i64 16, !\"T\"}
+";
+
+/// Words that are dropped, and what else says nothing.
+const DROPPED_WORDS: &str = "\
+@a = hidden unnamed_addr constant [4 x i64] zeroinitializer, section \"s\", !type !0
+define dso_local noundef i1 @t(ptr noundef readnone %p) local_unnamed_addr nounwind align 4 {
+  %r = tail call i1 @llvm.type.test(ptr nonnull %p, metadata !\"T\") nounwind, !dbg !7
+  ret i1 %r, !dbg !8
+}
+declare i1 @llvm.type.test(ptr, metadata) nounwind
+!0 = !{i64 16, !\"T\"}
+";
+
+/// A text that ends inside of a switch.
+const CUT_SWITCH: &str = "\
+define void @f(i32 %x) {
+  switch i32 %x, label %a [
+    i32 0, label
 ";
 
 const USAGE: &str =
@@ -184,10 +202,13 @@ fn a_file_is_lowered_or_refused(rt: HostRuntime) -> Result<(), Fail> {
         (TOO_FAR, 1, "", "ltt: E07 a.ll:1:1: form\n"),
         (NOT_CARRIED, 1, "", "ltt: E07 a.ll:1:1: form\n"),
         (SAME_NAME, 1, "", "ltt: E07 a.ll:1:1: form\n"),
-        (TWO_PARAMETERS, 1, "", "ltt: E02 a.ll:2:1: define\n"),
+        (TWO_PARAMETERS, 1, "", "ltt: E07 a.ll:1:1: form\n"),
+        (DROPPED_WORDS, 0, THIN_LOWERED, ""),
+        (CUT_SWITCH, 1, "", "ltt: E02 a.ll:2:3: switch\n"),
         ("", 1, "", "ltt: E07 a.ll:1:1: form\n"),
         ("@a = global i32 0 ?", 1, "", "ltt: E01 a.ll:1:19: 0x3F\n"),
-        ("@a = global i32 0", 1, "", "ltt: E02 a.ll:1:1: @a\n"),
+        ("@\"0\" = global i32 0", 1, "", "ltt: E01 a.ll:1:1: 0x40\n"),
+        ("@a = global i32 0", 1, "", "ltt: E07 a.ll:1:1: form\n"),
     ] {
         let mut files = MemFiles::new(rt.alloc());
         files.add("a.ll", text.as_bytes())?;

@@ -1,5 +1,5 @@
 use Rattle.std.proofs.Common.{◌-◌, length, drop}
-use Rattle.ir_text.specs.Seeing.{tokens}
+use Rattle.unit_grammar.specs.Seeing.{tokens}
 use Rattle.ir_text.specs.Reads.{ReadsTo}
 use Rattle.ir_text.proofs.reading.units.Given as goal
 

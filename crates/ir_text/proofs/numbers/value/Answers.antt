@@ -1,6 +1,0 @@
-use Rattle.ir_text.proofs.NumberLemmas.{overflow_at}
-use Rattle.ir_text.proofs.numbers.value.Goals as goal
-
-pub returns-in-None : goal.returns-in-None
-returns-in-None c =
-    overflow_at c.args.bytes.now c.loop-byte.byte-index c.loop-byte.value c.loop-byte-test.true c.loop-byte.invariant.0 c.in-None.ensures

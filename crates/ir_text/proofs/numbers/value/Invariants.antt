@@ -1,6 +1,0 @@
-use Rattle.std.proofs.Common.{◌≡◌, ◌<◌, ◌^◌, drop}
-use Rattle.std.specs.Str.Parse.{digits_value, digits_value_after}
-use Rattle.ir_text.proofs.numbers.value.Given as goal
-
-abbrev pub invariant-loop-byte : goal.invariant-loop-byte
-invariant-loop-byte l = (digits_value_after 10 l.value (drop l.byte-index l.bytes) ≡ digits_value 10 l.bytes) × (l.value < 2 ^ 64)
