@@ -13,3 +13,4 @@ pub mod OverlapLaws
 pub mod OwnerLaws
 pub mod OwnsLaws
 pub mod OwnerSteps
+pub mod LabelLaws

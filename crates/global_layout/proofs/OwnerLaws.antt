@@ -87,10 +87,10 @@ by_key q p (e ∷ es) all =
       by_test true more = ap (λ fs. e.1 ∷ fs) more
       by_test false more = more
 
-filter_same : (f g : ℕ → Bool) (xs : List ℕ) → ((x : ℕ) → f x ≡ g x) → filter f xs ≡ filter g xs
-filter_same f g [] same = refl
-filter_same f g (x ∷ xs) same =
-    ap (λ (t : Bool). cond t (x ∷ filter f xs) (filter f xs)) (same x) ∙ ap (λ ys. cond (g x) (x ∷ ys) ys) (filter_same f g xs same)
+pub filter-same : (f g : ℕ → Bool) (xs : List ℕ) → ((x : ℕ) → f x ≡ g x) → filter f xs ≡ filter g xs
+filter-same f g [] same = refl
+filter-same f g (x ∷ xs) same =
+    ap (λ (t : Bool). cond t (x ∷ filter f xs) (filter f xs)) (same x) ∙ ap (λ ys. cond (g x) (x ∷ ys) ys) (filter-same f g xs same)
 
 pub step-is : (p : ℕ → Bool) (owner : ℕ → Option ℕ) (objects : List ℕ) (entries : List (ℕ × List ℕ)) (n : ℕ) → Owns entries owner n
     → ((m : ℕ) → p m ≡ is_root owner objects m)
@@ -101,7 +101,7 @@ step-is p owner objects entries n owns same =
     let other : untouched objects (values_of entries) ≡ values_of (rest p entries) =
     by_key (λ f. not (holds_any objects f)) (λ m. not (p m)) entries (λ k d within. ap not (hold k d within)) in
     let new : unheld objects (values_of entries) ≡ unowned owner objects =
-    filter_same (λ o. not (is_held (values_of entries) o)) (λ o. not (is_some (owner o))) objects (λ o. ap not (owns.held o)) in
+    filter-same (λ o. not (is_held (values_of entries) o)) (λ o. not (is_some (owner o))) objects (λ o. ap not (owns.held o)) in
     map-append (λ e. e.1) (rest p entries) ((n, joined p entries ++ unowned owner objects) ∷ [])
     ∙ ap (λ (fs : List (List ℕ)). fs ++ (joined p entries ++ unowned owner objects) ∷ []) (sym other)
     ∙ ap (λ (f : List ℕ). untouched objects (values_of entries) ++ (f ++ unowned owner objects) ∷ []) (sym one)

@@ -6,5 +6,5 @@ pub mod Layout
 -- An example, for laws and tests.
 pub mod Examples
 pub mod Laws
--- Numbered fragments, which only private clauses cite.
+-- Fragments under numbers, and labels of objects, which only private clauses cite.
 pub mod Owners

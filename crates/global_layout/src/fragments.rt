@@ -1,17 +1,26 @@
-ghost use Rattle.std.specs.Prelude.{◌≡◌, ℕ, ◌+◌, ◌<◌, ◌≤◌, ◌++◌, [], ◌∷◌, length, IfOk, OnOk, All, take, ◌==◌, if◌then◌else◌, Some};
-ghost use Rattle.std.specs.List.{filter, concat};
-ghost use Rattle.std.specs.Map.{values_of};
+ghost use Rattle.std.specs.Prelude.{◌≡◌, ℕ, ◌+◌, ◌<◌, ◌++◌, [], length, IfOk, OnOk, All, ◌⊎◌, Option, slice_index_or};
+ghost use Rattle.std.specs.Map.{values_of, lookup, remove_entry};
+ghost use Rattle.std.specs.Option.{unwrap_or};
+ghost use Rattle.std.specs.BTreeMap.{is_at};
 ghost use Rattle.std.specs.BTreeMap as map;
 ghost use Rattle.std.specs.BTreeSet as set;
 ghost use Rattle.std.specs.Ordering.{nat_cmp};
 ghost use Rattle.global_layout.specs.Fragments as spec;
 ghost use Rattle.global_layout.specs.Owners as owner;
-ghost use Rattle.global_layout.specs.Ordered.{ordered};
 
 use crate::ids::IdMembers;
+use crate::owners::{Owners, at_or_zero, label_of, own, own_row};
+use crate::row::Row;
 use ltt_base::{List, Memory};
 use std::alloc::Global;
 use std::collections::{BTreeMap, BTreeSet};
+
+// A fragment outside the others: its objects in their order, and the label that each of them has.
+#[derive(Debug, Drop)]
+struct Joint {
+    objects: Row,
+    label: usize,
+}
 
 // The fragments of all identifiers.
 pub fn fragments_of(alloc: Global, ids: &[IdMembers]) -> Result<List<List<u32>>, Memory>
@@ -31,7 +40,7 @@ fn fragments_in(
     ensures { IfOk result (λ fragments. fragments ≡ spec.fragments_in ids.now order.now) }
 {
     let mut live = BTreeMap::new(alloc);
-    let mut owners = Vec::new(alloc);
+    let mut owners = Owners::new(alloc);
     for at in 0..order.len() {
         let (_, number) = order[at];
         with_id(
@@ -71,24 +80,27 @@ fn sizes(alloc: Global, ids: &[IdMembers]) -> Result<Vec<(usize, usize)>, Memory
 }
 
 // All objects of one more identifier in one fragment, the last.
-// `live` has the fragments by rising numbers, and `owners` the number of each object's fragment.
+// `live` has the fragments by rising numbers.
 fn with_id(
     alloc: Global,
     objects: &[u32],
     number: usize,
-    live: &mut BTreeMap<usize, List<u32>>,
-    owners: &mut Vec<Option<usize>>,
+    live: &mut BTreeMap<usize, Row>,
+    owners: &mut Owners,
 ) -> Result<(), Memory>
-    requires { owner.Owns live.old.entries (owner.owner_in owners.old.items) number }
+    requires owns { owner.Owns live.old.entries (owner.number_by owners.old.labels.items owners.old.numbers.items) number }
+    requires labelled { owner.IsLabelled owners.old.labels.items owners.old.numbers.items owners.old.names.items number }
     ensures step { OnOk result (values_of live.new.entries ≡ spec.with_id objects.now (values_of live.old.entries)) }
-    ensures owns { OnOk result (owner.Owns live.new.entries (owner.owner_in owners.new.items) (number + 1)) }
+    ensures owns { OnOk result (owner.Owns live.new.entries (owner.number_by owners.new.labels.items owners.new.numbers.items) (number + 1)) }
+    ensures labelled { OnOk result (owner.IsLabelled owners.new.labels.items owners.new.numbers.items owners.new.names.items (number + 1)) }
 {
-    let known = owners.as_slice();
-    let others = unowned(alloc, objects, known)?;
-    let numbers = roots(alloc, objects, known)?;
-    let mut fragment = joined(alloc, numbers, live)?;
-    fragment.append(others)?;
-    own(fragment.items(), number, owners)?;
+    let others = unowned(alloc, objects, owners.labels.as_slice())?;
+    let numbers = roots(alloc, objects, owners)?;
+    let names = owners.names.as_slice();
+    let joint = joined(alloc, numbers, number, names, live, &mut owners.labels)?;
+    own(others.items(), joint.label, &mut owners.labels)?;
+    owners.number_next(joint.label)?;
+    let fragment = joint.objects.before_list(others)?;
     match live.insert(number, fragment) {
         Ok(_) => Ok(()),
         Err(_) => Err(Memory),
@@ -96,16 +108,13 @@ fn with_id(
 }
 
 // The numbers of the fragments that hold one of the objects.
-fn roots(
-    alloc: Global,
-    objects: &[u32],
-    owners: &[Option<usize>],
-) -> Result<BTreeSet<usize>, Memory>
-    ensures { IfOk result (λ numbers. (n : ℕ) → set.contains nat_cmp numbers n ≡ owner.is_root (owner.owner_in owners.now) objects.now n) }
+fn roots(alloc: Global, objects: &[u32], owners: &Owners) -> Result<BTreeSet<usize>, Memory>
+    ensures { IfOk result (λ numbers. (n : ℕ) → set.contains nat_cmp numbers n
+        ≡ owner.is_root (owner.number_by owners.now.labels.items owners.now.numbers.items) objects.now n) }
 {
     let mut numbers = BTreeSet::new(alloc);
     for at in 0..objects.len() {
-        if let Some(number) = owner_of(owners, objects[at]) {
+        if let Some(number) = owners.number_of(objects[at]) {
             match numbers.insert(number) {
                 Ok(_) => {}
                 Err(_) => return Err(Memory),
@@ -115,103 +124,114 @@ fn roots(
     Ok(numbers)
 }
 
-// The fragments of these numbers, taken out and joined.
+// The fragments of these numbers, taken out and joined, under the label of one of them, or a new one.
 fn joined(
     alloc: Global,
     numbers: BTreeSet<usize>,
-    live: &mut BTreeMap<usize, List<u32>>,
-) -> Result<List<u32>, Memory>
-    requires { map.IsOrdered nat_cmp live.old }
-    ensures joined { IfOk result (λ fragment. fragment ≡ owner.joined (set.contains nat_cmp numbers) live.old.entries) }
+    label: usize,
+    names: &[usize],
+    live: &mut BTreeMap<usize, Row>,
+    labels: &mut Vec<Option<usize>>,
+) -> Result<Joint, Memory>
+    requires ordered { map.IsOrdered nat_cmp live.old }
+    requires named { owner.AreNamed live.old.entries (owner.owner_in labels.old.items) names.now }
+    ensures joined { IfOk result (λ joint. joint.objects ≡ owner.joined (set.contains nat_cmp numbers) live.old.entries) }
     ensures rest { OnOk result (live.new.entries ≡ owner.rest (set.contains nat_cmp numbers) live.old.entries) }
+    ensures labels { IfOk result (λ joint. owner.AreLabelled (owner.owner_in labels.old.items) joint.objects joint.label (owner.owner_in labels.new.items)) }
+    ensures label { IfOk result (λ joint. owner.IsLabel (set.contains nat_cmp numbers) names.now label joint.label) }
 {
     let mut numbers = numbers;
-    let mut fragment = List::new(alloc);
+    let mut joint = Joint {
+        objects: Row::new(alloc),
+        label,
+    };
     while let Some(number) = numbers.pop_first() {
-        if let Some(more) = live.remove(&number) {
-            fragment = followed(fragment, more)?;
-        }
+        joint = join_one(number, joint, names, live, labels)?;
     }
-    Ok(fragment)
+    Ok(joint)
 }
 
-// The items of one list and then of another, which is not copied where the first is empty.
-fn followed(first: List<u32>, more: List<u32>) -> Result<List<u32>, Memory>
-    ensures { IfOk result (λ both. both ≡ first ++ more) }
+// The fragment of one number more, taken out and joined behind the others.
+fn join_one(
+    number: usize,
+    joint: Joint,
+    names: &[usize],
+    live: &mut BTreeMap<usize, Row>,
+    labels: &mut Vec<Option<usize>>,
+) -> Result<Joint, Memory>
+    requires { map.IsOrdered nat_cmp live.old }
+    ensures objects { IfOk result (λ both. both.objects ≡ joint.objects ++ unwrap_or (lookup (is_at (nat_cmp number)) live.old.entries) []) }
+    ensures taken { live.new.entries ≡ remove_entry (is_at (nat_cmp number)) live.old.entries }
+    ensures ordered { map.IsOrdered nat_cmp live.new }
+    ensures labels { IfOk result (λ both. (before : ℕ → Option ℕ) → owner.AreNamed live.old.entries before names.now
+        → owner.AreLabelled before joint.objects joint.label (owner.owner_in labels.old.items)
+        → owner.AreLabelled before both.objects both.label (owner.owner_in labels.new.items)) }
+    ensures label { IfOk result (λ both. (both.label ≡ joint.label) ⊎ (both.label ≡ slice_index_or names.now number 0)) }
 {
-    if first.is_empty() {
-        return Ok(more);
+    match live.remove(&number) {
+        Some(objects) => {
+            let label = at_or_zero(names, number);
+            merged(joint, Joint { objects, label }, labels)
+        }
+        None => Ok(joint),
     }
-    let mut both = first;
-    both.append(more)?;
-    Ok(both)
+}
+
+// Two fragments joined, under the label of the longer.
+fn merged(first: Joint, more: Joint, labels: &mut Vec<Option<usize>>) -> Result<Joint, Memory>
+    ensures objects { IfOk result (λ both. both.objects ≡ first.objects ++ more.objects) }
+    ensures labels { IfOk result (λ both. owner.AreMerged first.objects first.label more.objects more.label both.label
+        (owner.owner_in labels.old.items) (owner.owner_in labels.new.items)) }
+{
+    let label = merged_label(&first, &more, labels)?;
+    let Joint { objects, .. } = first;
+    let Joint {
+        objects: behind,
+        ..
+    } = more;
+    let objects = objects.followed(behind)?;
+    Ok(Joint { objects, label })
+}
+
+// The label of the longer of two fragments, which the objects of the other take.
+fn merged_label(
+    first: &Joint,
+    more: &Joint,
+    labels: &mut Vec<Option<usize>>,
+) -> Result<usize, Memory>
+    ensures { IfOk result (λ label. owner.AreMerged first.now.objects first.now.label more.now.objects more.now.label label
+        (owner.owner_in labels.old.items) (owner.owner_in labels.new.items)) }
+{
+    if first.objects.len() < more.objects.len() {
+        own_row(&first.objects, more.label, labels)?;
+        Ok(more.label)
+    } else {
+        own_row(&more.objects, first.label, labels)?;
+        Ok(first.label)
+    }
 }
 
 // The objects that no fragment holds.
-fn unowned(alloc: Global, objects: &[u32], owners: &[Option<usize>]) -> Result<List<u32>, Memory>
-    ensures { IfOk result (λ others. others ≡ owner.unowned (owner.owner_in owners.now) objects.now) }
+fn unowned(alloc: Global, objects: &[u32], labels: &[Option<usize>]) -> Result<List<u32>, Memory>
+    ensures { IfOk result (λ others. others ≡ owner.unowned (owner.owner_in labels.now) objects.now) }
 {
     let mut others = List::new(alloc);
     for at in 0..objects.len() {
-        if owner_of(owners, objects[at]).is_none() {
+        if label_of(labels, objects[at]).is_none() {
             others.add(objects[at])?;
         }
     }
     Ok(others)
 }
 
-// Puts objects under a number.
-fn own(objects: &[u32], number: usize, owners: &mut Vec<Option<usize>>) -> Result<(), Memory>
-    ensures { OnOk result ((o : ℕ) → owner.owner_in owners.new.items o ≡ owner.owner_more (owner.owner_in owners.old.items) objects.now number o) }
-{
-    for at in 0..objects.len() {
-        put(objects[at], number, owners)?;
-    }
-    Ok(())
-}
-
-// Puts an object under a number.
-fn put(object: u32, number: usize, owners: &mut Vec<Option<usize>>) -> Result<(), Memory>
-    ensures { OnOk result ((o : ℕ) → owner.owner_in owners.new.items o ≡ (if object == o then Some number else owner.owner_in owners.old.items o)) }
-{
-    grow(object as usize, owners)?;
-    owners[object as usize] = Some(number);
-    Ok(())
-}
-
-// Makes the list longer than a place, by objects that have no number.
-fn grow(place: usize, owners: &mut Vec<Option<usize>>) -> Result<(), Memory>
-    ensures long { OnOk result (place < length owners.new.items) }
-    ensures same { OnOk result ((o : ℕ) → owner.owner_in owners.new.items o ≡ owner.owner_in owners.old.items o) }
-{
-    while owners.len() <= place {
-        match owners.push(None) {
-            Ok(()) => {}
-            Err(_) => return Err(Memory),
-        }
-    }
-    Ok(())
-}
-
-// The number of an object.
-fn owner_of(owners: &[Option<usize>], object: u32) -> Option<usize>
-    ensures { result ≡ owner.owner_in owners.now object }
-{
-    if (object as usize) < owners.len() {
-        owners[object as usize]
-    } else {
-        None
-    }
-}
-
 // The fragments in the order of their numbers, which no later identifier touched.
-fn listed(alloc: Global, live: BTreeMap<usize, List<u32>>) -> Result<List<List<u32>>, Memory>
+fn listed(alloc: Global, live: BTreeMap<usize, Row>) -> Result<List<List<u32>>, Memory>
     ensures { IfOk result (λ fragments. fragments ≡ values_of live.entries) }
 {
     let mut live = live;
     let mut untouched = List::new(alloc);
     while let Some((_, touched)) = live.pop_first() {
-        untouched.add(touched)?;
+        untouched.add(touched.into_list())?;
     }
     Ok(untouched)
 }

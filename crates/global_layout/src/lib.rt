@@ -6,7 +6,9 @@ mod groups;
 mod ids;
 mod laws;
 mod layout;
+mod owners;
 mod placing;
+mod row;
 mod slots;
 #[cfg(test)]
 mod tests;

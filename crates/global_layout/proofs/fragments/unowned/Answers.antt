@@ -8,8 +8,8 @@ use Rattle.global_layout.proofs.fragments.unowned.Goals as goal
 
 pub loop-at-preserved : goal.loop-at-preserved
 loop-at-preserved c = elim c.if-is_none.branch [
-  | then-is_none+in_ok-add w ↦ w.others-is ∙ unowned-new (owner_in c.args.owners.now) c.args.objects.now c.loop-at.at c.loop-at.others _ c.loop-at-test.true
-      (sym (ap is_some c.owner_of.ensures) ∙ c.is_none.ensures ∙ ap not w.if-is_none.true) w.in_ok-add.ensures.added c.loop-at.invariant
-  | else-is_none w ↦ w.others-is ∙ unowned-old (owner_in c.args.owners.now) c.args.objects.now c.loop-at.at c.loop-at.others c.loop-at-test.true
-      (sym (ap is_some c.owner_of.ensures) ∙ c.is_none.ensures ∙ ap not w.if-is_none.false) c.loop-at.invariant
+  | then-is_none+in_ok-add w ↦ w.others-is ∙ unowned-new (owner_in c.args.labels.now) c.args.objects.now c.loop-at.at c.loop-at.others _ c.loop-at-test.true
+      (sym (ap is_some c.label_of.ensures) ∙ c.is_none.ensures ∙ ap not w.if-is_none.true) w.in_ok-add.ensures.added c.loop-at.invariant
+  | else-is_none w ↦ w.others-is ∙ unowned-old (owner_in c.args.labels.now) c.args.objects.now c.loop-at.at c.loop-at.others c.loop-at-test.true
+      (sym (ap is_some c.label_of.ensures) ∙ c.is_none.ensures ∙ ap not w.if-is_none.false) c.loop-at.invariant
 ]

@@ -3,4 +3,4 @@ use Rattle.global_layout.specs.Owners.{owner_in, unowned}
 use Rattle.global_layout.proofs.fragments.unowned.Given as goal
 
 abbrev pub invariant-loop-at : goal.invariant-loop-at
-invariant-loop-at l = l.others ≡ unowned (owner_in l.owners) (take l.at l.objects)
+invariant-loop-at l = l.others ≡ unowned (owner_in l.labels) (take l.at l.objects)
