@@ -1,2 +1,3 @@
-pub mod PieceLemmas
+pub mod PutLemmas
+pub mod ListLemmas
 pub mod PrintLemmas

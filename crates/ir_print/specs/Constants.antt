@@ -6,10 +6,10 @@ use Rattle.ir_values.specs.declared.types.Ty.TheOpen.{Ty-F}
 use Rattle.ir_values.specs.declared.constants.Const.{Const, fold-Const}
 use Rattle.ir_values.specs.declared.constants.Const.TheOpen.{Const-F, Operand-F}
 use Rattle.ir_values.specs.declared.constants.Operand.{Operand, fold-Operand}
-use Rattle.ir_print.specs.Pieces.{joined, commas, after_commas}
+use Rattle.ir_print.specs.Pieces.{commas, after_commas}
 use Rattle.ir_print.specs.Names.{quoted, global_text, local_text}
 use Rattle.ir_print.specs.Numbers.{integer_text}
-use Rattle.ir_print.specs.Types.{ty_text}
+use Rattle.ir_print.specs.Types.{ty_text, behind_types}
 
 -- The two ways in which a constant is printed, each for the type that its place gives it.
 pub record Printed : Type 0 where
@@ -25,27 +25,24 @@ abbrev pub printed : List ℕ → Printed
 printed text = placed (λ ty. text)
 
 -- the address so many bytes from the start of a global
-unfoldable pub moved_pieces : List ℕ → ℕ → List (List ℕ)
-moved_pieces name offset =
-    codes "getelementptr (i8, ptr " ∷ global_text name ∷ codes ", i64 " ∷ integer_text Width.W64 offset ∷ codes ")" ∷ []
+abbrev pub moved_text : List ℕ → ℕ → List ℕ
+moved_text name offset =
+    codes "getelementptr (i8, ptr " ++ global_text name ++ codes ", i64 " ++ integer_text Width.W64 offset ++ codes ")"
 
 unfoldable pub address_text : List ℕ → ℕ → List ℕ
-address_text name offset = if offset == 0 then global_text name else joined (moved_pieces name offset)
+address_text name offset = if offset == 0 then global_text name else moved_text name offset
 
 -- the number of that address
-unfoldable pub number_pieces : List ℕ → ℕ → List (List ℕ)
-number_pieces name offset = codes "ptrtoint (ptr " ∷ address_text name offset ∷ codes " to i64)" ∷ []
+abbrev pub number_text : List ℕ → ℕ → List ℕ
+number_text name offset = codes "ptrtoint (ptr " ++ address_text name offset ++ codes " to i64)"
 
 -- the types of a struct's parts
 abbrev pub parts_of : Ty-F Ty → List Ty
 parts_of (Ty-F.Struct types) = types
 parts_of _ = []
 
--- each part behind its type; a part for which there is no type stands behind `void`
 abbrev pub parts_text : List Ty → List Printed → List (List ℕ)
-parts_text types [] = []
-parts_text [] (part ∷ parts) = part.typed Ty.Void ∷ parts_text [] parts
-parts_text (ty ∷ types) (part ∷ parts) = part.typed ty ∷ parts_text types parts
+parts_text = behind_types (λ ty part. part.typed ty)
 
 unfoldable pub zero_text : List ℕ
 zero_text = codes "zeroinitializer"
@@ -61,15 +58,12 @@ abbrev pub struct_text : List Ty → List Printed → List ℕ
 struct_text types [] = codes "{}"
 struct_text types (part ∷ parts) = codes "{ " ++ commas (parts_text types (part ∷ parts)) ++ codes " }"
 
--- what stands before the indices of an address
-unfoldable pub base_pieces : Ty → Printed → List (List ℕ)
-base_pieces ty base = codes "getelementptr (" ∷ ty_text ty ∷ codes ", " ∷ base.typed Ty.Ptr ∷ []
-
 abbrev pub indices_text : List Printed → List ℕ
 indices_text indices = after_commas (map (λ index. index.typed (Ty.Int Width.W64)) indices)
 
 abbrev pub gep_text : Ty → Printed → List Printed → List ℕ
-gep_text ty base indices = joined (base_pieces ty base) ++ (indices_text indices ++ codes ")")
+gep_text ty base indices =
+    codes "getelementptr (" ++ ty_text ty ++ codes ", " ++ base.typed Ty.Ptr ++ indices_text indices ++ codes ")"
 
 -- a constant, given the texts of its parts
 abbrev pub const_step : Const-F Printed Printed → Printed
@@ -81,7 +75,7 @@ const_step (Const-F.Array ty parts) = printed (array_text ty parts)
 const_step (Const-F.Struct parts) = placed (λ ty. struct_text (parts_of (out-Ty ty)) parts)
 const_step (Const-F.Bytes text) = printed (bytes_text text)
 const_step (Const-F.Gep ty base indices) = printed (gep_text ty base indices)
-const_step (Const-F.Number name offset) = printed (joined (number_pieces name offset))
+const_step (Const-F.Number name offset) = printed (number_text name offset)
 const_step (Const-F.Left text) = printed text
 const_step (Const-F.Typed ty part) = record { alone = λ place. part.alone ty; typed = λ place. part.typed ty }
 
@@ -108,3 +102,7 @@ operand_text ty value = (operand_printed value).alone ty
 
 abbrev pub typed_text : Ty → Operand → List ℕ
 typed_text ty value = (operand_printed value).typed ty
+
+-- an index of an address, behind its comma
+abbrev pub index_text : Operand → List ℕ
+index_text index = codes ", " ++ typed_text (Ty.Int Width.W64) index

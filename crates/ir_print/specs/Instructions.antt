@@ -13,7 +13,7 @@ use Rattle.ir_values.specs.declared.modules.TypeId.{TypeId}
 use Rattle.ir_print.specs.Pieces.{joined, commas, spaces}
 use Rattle.ir_print.specs.Names.{quoted, global_text, local_text}
 use Rattle.ir_print.specs.Numbers.{integer_text}
-use Rattle.ir_print.specs.Types.{ty_text, width_text, pair_text}
+use Rattle.ir_print.specs.Types.{ty_text, width_text, pair_text, behind_types}
 use Rattle.ir_print.specs.Constants.{operand_text, typed_text}
 
 abbrev pub op_text : BinOp → List ℕ
@@ -66,11 +66,9 @@ abbrev pub callee_text : Callee → List ℕ
 callee_text (Callee.Function name) = global_text name
 callee_text (Callee.Value value) = operand_text Ty.Ptr value
 
--- each argument behind the type of its parameter; one for which there is none stands behind `void`
+-- each argument behind the type of its parameter
 abbrev pub args_text : List Ty → List Operand → List (List ℕ)
-args_text types [] = []
-args_text [] (arg ∷ args) = typed_text Ty.Void arg ∷ args_text [] args
-args_text (ty ∷ types) (arg ∷ args) = typed_text ty arg ∷ args_text types args
+args_text = behind_types typed_text
 
 -- an index of an address
 abbrev pub index_text : Width × Operand → List ℕ

@@ -10,7 +10,7 @@ use Rattle.ir_values.specs.declared.modules.Var.{Var}
 use Rattle.ir_values.specs.declared.modules.Jump.{Jump}
 use Rattle.ir_print.specs.Pieces.{joined, commas}
 use Rattle.ir_print.specs.Names.{name_text, global_text, local_text}
-use Rattle.ir_print.specs.Types.{ty_text}
+use Rattle.ir_print.specs.Types.{ty_text, behind_types}
 use Rattle.ir_print.specs.Constants.{typed_const_text}
 use Rattle.ir_print.specs.Instructions.{inst_text}
 
@@ -46,11 +46,9 @@ declare_pieces f = codes "declare " ∷ ty_text f.fty.result ∷ codes " " ∷ g
 abbrev pub param_text : Ty → List ℕ → List ℕ
 param_text ty param = ty_text ty ++ codes " " ++ local_text param
 
--- each parameter behind its type; one for which there is no type stands behind `void`
+-- each parameter behind its type
 abbrev pub params_text : List Ty → List (List ℕ) → List (List ℕ)
-params_text types [] = []
-params_text [] (param ∷ params) = param_text Ty.Void param ∷ params_text [] params
-params_text (ty ∷ types) (param ∷ params) = param_text ty param ∷ params_text types params
+params_text = behind_types param_text
 
 -- an instruction, on its line
 unfoldable pub line_text : Inst → List ℕ

@@ -7,5 +7,6 @@ pub mod Constants
 pub mod Instructions
 pub mod Items
 pub mod ModuleText
+pub mod Puts
 -- What private clauses and loops cite besides.
 pub mod Printing

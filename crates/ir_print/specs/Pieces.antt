@@ -2,9 +2,10 @@
 use Rattle.std.specs.Prelude.{ℕ, List, [], ◌∷◌, ◌++◌, codes, flat_map}
 
 -- pieces behind one another
-unfoldable pub joined : List (List ℕ) → List ℕ
+abbrev pub joined : List (List ℕ) → List ℕ
 joined [] = []
-joined (piece ∷ pieces) = piece ++ joined pieces
+joined (piece ∷ []) = piece
+joined (piece ∷ next ∷ pieces) = piece ++ joined (next ∷ pieces)
 
 -- pieces, each behind a comma
 abbrev pub after_commas : List (List ℕ) → List ℕ

@@ -37,3 +37,9 @@ ty_step (Ty-F.Left text) = text
 
 abbrev pub ty_text : Ty → List ℕ
 ty_text = fold-Ty (List ℕ) ty_step
+
+-- each item with its type; one for which there is no type stands behind `void`
+abbrev pub behind_types : {X : Type 0} → (Ty → X → List ℕ) → List Ty → List X → List (List ℕ)
+behind_types text types [] = []
+behind_types text [] (item ∷ items) = text Ty.Void item ∷ behind_types text [] items
+behind_types text (ty ∷ types) (item ∷ items) = text ty item ∷ behind_types text types items

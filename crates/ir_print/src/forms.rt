@@ -1,12 +1,12 @@
 // The sorts of items that a module is printed by.
-ghost use Rattle.std.specs.Prelude.{◌≡◌, ◌++◌, [], List, ℕ, if◌then◌else◌, OnOk};
+ghost use Rattle.std.specs.Prelude.{List, ℕ};
 ghost use Rattle.ir_print.specs.Items.{var_text, table_text};
 ghost use Rattle.ir_print.specs.ModuleText as Spec;
+ghost use Rattle.ir_print.specs.Puts.{Puts};
 
-use crate::intrinsics::{Intrinsic, is_called, put_intrinsic};
 use crate::items::{put_declaration, put_definition, put_table, put_var};
-use ir_values::{Func, Jump, Module, Var};
-use ltt_base::{Memory, Text};
+use crate::output::Printer;
+use ir_values::{Func, Jump, Var};
 
 /// A way of printing items of one sort.
 pub trait Form {
@@ -14,15 +14,13 @@ pub trait Form {
 
     ghost text: { Self.Item → List ℕ };
 
-    fn put(line: &mut Text, item: &Self::Item) -> Result<(), Memory>
-        ensures { OnOk result (line.new ≡ line.old ++ text item.now) };
+    fn put<P: Printer>(line: &mut P, item: &Self::Item)
+        ensures { Puts (P.state line.old) (P.state line.new) (text item.now) };
 }
 
 pub struct Variables;
 
 pub struct Tables;
-
-pub struct Intrinsics;
 
 pub struct Declarations;
 
@@ -33,7 +31,7 @@ impl Form for Variables {
 
     ghost text = { var_text };
 
-    fn put(line: &mut Text, item: &Var) -> Result<(), Memory> {
+    fn put<P: Printer>(line: &mut P, item: &Var) {
         put_var(line, item)
     }
 }
@@ -43,20 +41,8 @@ impl Form for Tables {
 
     ghost text = { table_text };
 
-    fn put(line: &mut Text, item: &Jump) -> Result<(), Memory> {
+    fn put<P: Printer>(line: &mut P, item: &Jump) {
         put_table(line, item)
-    }
-}
-
-impl Form for Intrinsics {
-    type Item = Module;
-
-    ghost text = { Spec.intrinsics_text };
-
-    fn put(line: &mut Text, item: &Module) -> Result<(), Memory> {
-        put_called(line, item, Intrinsic::Rotation)?;
-        put_called(line, item, Intrinsic::Trap)?;
-        put_called(line, item, Intrinsic::CodedTrap)
     }
 }
 
@@ -65,11 +51,11 @@ impl Form for Declarations {
 
     ghost text = { Spec.declared_text };
 
-    fn put(line: &mut Text, item: &Func) -> Result<(), Memory> {
+    fn put<P: Printer>(line: &mut P, item: &Func) {
         if item.blocks.is_empty() {
             put_declaration(line, item)
         } else {
-            Ok(())
+            line.put(b"")
         }
     }
 }
@@ -79,21 +65,11 @@ impl Form for Definitions {
 
     ghost text = { Spec.defined_text };
 
-    fn put(line: &mut Text, item: &Func) -> Result<(), Memory> {
+    fn put<P: Printer>(line: &mut P, item: &Func) {
         if item.blocks.is_empty() {
-            Ok(())
+            line.put(b"")
         } else {
             put_definition(line, item)
         }
-    }
-}
-
-fn put_called(line: &mut Text, m: &Module, intrinsic: Intrinsic) -> Result<(), Memory>
-    ensures { OnOk result (line.new ≡ line.old ++ Spec.called_text m.now intrinsic) }
-{
-    if is_called(intrinsic, m.funcs.items()) {
-        put_intrinsic(line, intrinsic)
-    } else {
-        Ok(())
     }
 }

@@ -1,25 +1,25 @@
 // Instructions. A function for each prints it piece by piece.
-ghost use Rattle.std.specs.Prelude.{◌≡◌, [], ◌∷◌, codes, OnOk};
+ghost use Rattle.std.specs.Prelude.{◌++◌, codes};
 ghost use Rattle.ir_values.specs.declared.instructions.Inst.{Inst};
+ghost use Rattle.ir_values.specs.declared.types.Width.{Width};
+ghost use Rattle.ir_print.specs.Constants.{typed_text};
 ghost use Rattle.ir_print.specs.Instructions as Spec;
-ghost use Rattle.ir_print.specs.Names.{local_text};
-ghost use Rattle.ir_print.specs.Printing.{with_pieces};
-ghost use Rattle.ir_print.specs.Types.{pair_text};
+ghost use Rattle.ir_print.specs.Numbers.{integer_text};
+ghost use Rattle.ir_print.specs.Puts.{Puts};
 
 use crate::constants::{put_operand, put_typed};
+use crate::lists::{put_args, put_arms, put_cases, put_indices};
 use crate::names::put_local;
 use crate::numbers::{put_decimal, put_integer, put_signed_decimal};
-use crate::parts::{
-    put_args, put_arms, put_callee, put_cases, put_cast, put_id, put_indices, put_op, put_pred,
-    put_sets, put_to,
-};
+use crate::output::Printer;
+use crate::parts::{put_callee, put_cast, put_id, put_op, put_pred, put_sets, put_to};
 use crate::types::{put_pair, put_ty, put_width};
 use ir_values::{BinOp, Callee, CastOp, FuncTy, Inst, Operand, Pred, Ty, TypeId, Width};
-use ltt_base::{Memory, Text};
+use ltt_base::Text;
 
 /// Prints an instruction, without the spaces before it and the end of its line.
-pub fn put_inst(line: &mut Text, inst: &Inst) -> Result<(), Memory>
-    ensures { OnOk result (line.new ≡ with_pieces line.old (Spec.inst_pieces inst.now)) }
+pub fn put_inst<P: Printer>(line: &mut P, inst: &Inst)
+    ensures { Puts (P.state line.old) (P.state line.new) (Spec.inst_text inst.now) }
 {
     match inst {
         Inst::Binary {
@@ -91,313 +91,301 @@ pub fn put_inst(line: &mut Text, inst: &Inst) -> Result<(), Memory>
 }
 
 #[tactic(auto, unfolding(crate::specs::Instructions::inst_pieces))]
-fn put_binary(
-    line: &mut Text,
+fn put_binary<P: Printer>(
+    line: &mut P,
     dst: &[u8],
     op: BinOp,
     width: Width,
     a: &Operand,
     b: &Operand,
-) -> Result<(), Memory>
-    ensures { OnOk result (line.new ≡ with_pieces line.old (Spec.inst_pieces (Inst.Binary dst.now op width a.now b.now))) }
+)
+    ensures { Puts (P.state line.old) (P.state line.new) (Spec.inst_text (Inst.Binary dst.now op width a.now b.now)) }
 {
-    put_local(line, dst)?;
-    line.extend(b" = ")?;
-    put_op(line, op)?;
-    line.extend(b" ")?;
-    put_typed(line, a, &Ty::Int(width))?;
-    line.extend(b", ")?;
+    put_local(line, dst);
+    line.put(b" = ");
+    put_op(line, op);
+    line.put(b" ");
+    put_typed(line, a, &Ty::Int(width));
+    line.put(b", ");
     put_operand(line, b, &Ty::Int(width))
 }
 
 #[tactic(auto, unfolding(crate::specs::Instructions::inst_pieces))]
-fn put_compare(
-    line: &mut Text,
-    dst: &[u8],
-    pred: Pred,
-    ty: &Ty,
-    a: &Operand,
-    b: &Operand,
-) -> Result<(), Memory>
-    ensures { OnOk result (line.new ≡ with_pieces line.old (Spec.inst_pieces (Inst.Compare dst.now pred ty.now a.now b.now))) }
+fn put_compare<P: Printer>(line: &mut P, dst: &[u8], pred: Pred, ty: &Ty, a: &Operand, b: &Operand)
+    ensures { Puts (P.state line.old) (P.state line.new) (Spec.inst_text (Inst.Compare dst.now pred ty.now a.now b.now)) }
 {
-    put_local(line, dst)?;
-    line.extend(b" = icmp ")?;
-    put_pred(line, pred)?;
-    line.extend(b" ")?;
-    put_typed(line, a, ty)?;
-    line.extend(b", ")?;
+    put_local(line, dst);
+    line.put(b" = icmp ");
+    put_pred(line, pred);
+    line.put(b" ");
+    put_typed(line, a, ty);
+    line.put(b", ");
     put_operand(line, b, ty)
 }
 
 #[tactic(auto, unfolding(crate::specs::Instructions::inst_pieces))]
-fn put_select(
-    line: &mut Text,
+fn put_select<P: Printer>(
+    line: &mut P,
     dst: &[u8],
     cond: &Operand,
     ty: &Ty,
     a: &Operand,
     b: &Operand,
-) -> Result<(), Memory>
-    ensures { OnOk result (line.new ≡ with_pieces line.old (Spec.inst_pieces (Inst.Select dst.now cond.now ty.now a.now b.now))) }
+)
+    ensures { Puts (P.state line.old) (P.state line.new) (Spec.inst_text (Inst.Select dst.now cond.now ty.now a.now b.now)) }
 {
-    put_local(line, dst)?;
-    line.extend(b" = select ")?;
-    put_typed(line, cond, &Ty::Int(Width::W1))?;
-    line.extend(b", ")?;
-    put_typed(line, a, ty)?;
-    line.extend(b", ")?;
+    put_local(line, dst);
+    line.put(b" = select ");
+    put_typed(line, cond, &Ty::Int(Width::W1));
+    line.put(b", ");
+    put_typed(line, a, ty);
+    line.put(b", ");
     put_typed(line, b, ty)
 }
 
 #[tactic(auto, unfolding(crate::specs::Instructions::inst_pieces))]
-fn put_conversion(
-    line: &mut Text,
+fn put_conversion<P: Printer>(
+    line: &mut P,
     dst: &[u8],
     op: CastOp,
     from: Width,
     a: &Operand,
     to: Width,
-) -> Result<(), Memory>
-    ensures { OnOk result (line.new ≡ with_pieces line.old (Spec.inst_pieces (Inst.Cast dst.now op from a.now to))) }
+)
+    ensures { Puts (P.state line.old) (P.state line.new) (Spec.inst_text (Inst.Cast dst.now op from a.now to)) }
 {
-    put_local(line, dst)?;
-    line.extend(b" = ")?;
-    put_cast(line, op)?;
-    line.extend(b" ")?;
-    put_typed(line, a, &Ty::Int(from))?;
-    line.extend(b" to ")?;
+    put_local(line, dst);
+    line.put(b" = ");
+    put_cast(line, op);
+    line.put(b" ");
+    put_typed(line, a, &Ty::Int(from));
+    line.put(b" to ");
     put_width(line, to)
 }
 
 #[tactic(auto, unfolding(crate::specs::Instructions::inst_pieces))]
-fn put_gep(
-    line: &mut Text,
+fn put_gep<P: Printer>(
+    line: &mut P,
     dst: &[u8],
     ty: &Ty,
     base: &Operand,
     index: &[(Width, Operand)],
-) -> Result<(), Memory>
-    ensures { OnOk result (line.new ≡ with_pieces line.old (Spec.inst_pieces (Inst.Gep dst.now ty.now base.now index.now))) }
+)
+    ensures { Puts (P.state line.old) (P.state line.new) (Spec.inst_text (Inst.Gep dst.now ty.now base.now index.now)) }
 {
-    put_local(line, dst)?;
-    line.extend(b" = getelementptr ")?;
-    put_ty(line, ty)?;
-    line.extend(b", ")?;
-    put_typed(line, base, &Ty::Ptr)?;
+    put_local(line, dst);
+    line.put(b" = getelementptr ");
+    put_ty(line, ty);
+    line.put(b", ");
+    put_typed(line, base, &Ty::Ptr);
     put_indices(line, index)
 }
 
 #[tactic(auto, unfolding(crate::specs::Instructions::inst_pieces))]
-fn put_load(line: &mut Text, dst: &[u8], ty: &Ty, addr: &Operand) -> Result<(), Memory>
-    ensures { OnOk result (line.new ≡ with_pieces line.old (Spec.inst_pieces (Inst.Load dst.now ty.now addr.now))) }
+fn put_load<P: Printer>(line: &mut P, dst: &[u8], ty: &Ty, addr: &Operand)
+    ensures { Puts (P.state line.old) (P.state line.new) (Spec.inst_text (Inst.Load dst.now ty.now addr.now)) }
 {
-    put_local(line, dst)?;
-    line.extend(b" = load ")?;
-    put_ty(line, ty)?;
-    line.extend(b", ")?;
-    put_typed(line, addr, &Ty::Ptr)?;
-    line.extend(b", align 1")
+    put_local(line, dst);
+    line.put(b" = load ");
+    put_ty(line, ty);
+    line.put(b", ");
+    put_typed(line, addr, &Ty::Ptr);
+    line.put(b", align 1")
 }
 
 #[tactic(auto, unfolding(crate::specs::Instructions::inst_pieces))]
-fn put_store(line: &mut Text, ty: &Ty, value: &Operand, addr: &Operand) -> Result<(), Memory>
-    ensures { OnOk result (line.new ≡ with_pieces line.old (Spec.inst_pieces (Inst.Store ty.now value.now addr.now))) }
+fn put_store<P: Printer>(line: &mut P, ty: &Ty, value: &Operand, addr: &Operand)
+    ensures { Puts (P.state line.old) (P.state line.new) (Spec.inst_text (Inst.Store ty.now value.now addr.now)) }
 {
-    line.extend(b"store ")?;
-    put_typed(line, value, ty)?;
-    line.extend(b", ")?;
-    put_typed(line, addr, &Ty::Ptr)?;
-    line.extend(b", align 1")
+    line.put(b"store ");
+    put_typed(line, value, ty);
+    line.put(b", ");
+    put_typed(line, addr, &Ty::Ptr);
+    line.put(b", align 1")
 }
 
 #[tactic(auto, unfolding(crate::specs::Instructions::inst_pieces))]
-fn put_call(
-    line: &mut Text,
+fn put_call<P: Printer>(
+    line: &mut P,
     dst: &Option<Text>,
     fty: &FuncTy,
     callee: &Callee,
     args: &[Operand],
-) -> Result<(), Memory>
-    ensures { OnOk result (line.new ≡ with_pieces line.old (Spec.inst_pieces (Inst.Call dst.now fty.now callee.now args.now))) }
+)
+    ensures { Puts (P.state line.old) (P.state line.new) (Spec.inst_text (Inst.Call dst.now fty.now callee.now args.now)) }
 {
-    put_sets(line, dst)?;
-    line.extend(b"call ")?;
-    put_ty(line, &fty.result)?;
-    line.extend(b" ")?;
-    put_callee(line, callee)?;
-    line.extend(b"(")?;
-    put_args(line, fty.params.items(), args)?;
-    line.extend(b")")
+    put_sets(line, dst);
+    line.put(b"call ");
+    put_ty(line, &fty.result);
+    line.put(b" ");
+    put_callee(line, callee);
+    line.put(b"(");
+    put_args(line, fty.params.items(), args);
+    line.put(b")")
 }
 
 #[tactic(auto, unfolding(crate::specs::Instructions::inst_pieces))]
-fn put_extract(line: &mut Text, dst: &[u8], pair: &[u8], part: u8) -> Result<(), Memory>
-    ensures { OnOk result (line.new ≡ with_pieces line.old (Spec.inst_pieces (Inst.Extract dst.now pair.now part))) }
+fn put_extract<P: Printer>(line: &mut P, dst: &[u8], pair: &[u8], part: u8)
+    ensures { Puts (P.state line.old) (P.state line.new) (Spec.inst_text (Inst.Extract dst.now pair.now part)) }
 {
-    put_local(line, dst)?;
-    line.extend(b" = extractvalue ")?;
-    put_pair(line)?;
-    line.extend(b" ")?;
-    put_local(line, pair)?;
-    line.extend(b", ")?;
+    put_local(line, dst);
+    line.put(b" = extractvalue ");
+    put_pair(line);
+    line.put(b" ");
+    put_local(line, pair);
+    line.put(b", ");
     put_decimal(line, u64::from(part))
 }
 
 #[tactic(auto, unfolding(crate::specs::Instructions::inst_pieces))]
-fn put_phi(line: &mut Text, dst: &[u8], ty: &Ty, arms: &[(Operand, Text)]) -> Result<(), Memory>
-    ensures { OnOk result (line.new ≡ with_pieces line.old (Spec.inst_pieces (Inst.Phi dst.now ty.now arms.now))) }
+fn put_phi<P: Printer>(line: &mut P, dst: &[u8], ty: &Ty, arms: &[(Operand, Text)])
+    ensures { Puts (P.state line.old) (P.state line.new) (Spec.inst_text (Inst.Phi dst.now ty.now arms.now)) }
 {
-    put_local(line, dst)?;
-    line.extend(b" = phi ")?;
-    put_ty(line, ty)?;
-    line.extend(b" ")?;
+    put_local(line, dst);
+    line.put(b" = phi ");
+    put_ty(line, ty);
+    line.put(b" ");
     put_arms(line, arms, ty)
 }
 
 #[tactic(auto, unfolding(crate::specs::Instructions::inst_pieces))]
-fn put_br(line: &mut Text, to: &[u8]) -> Result<(), Memory>
-    ensures { OnOk result (line.new ≡ with_pieces line.old (Spec.inst_pieces (Inst.Br to.now))) }
+fn put_br<P: Printer>(line: &mut P, to: &[u8])
+    ensures { Puts (P.state line.old) (P.state line.new) (Spec.inst_text (Inst.Br to.now)) }
 {
-    line.extend(b"br ")?;
+    line.put(b"br ");
     put_to(line, to)
 }
 
 #[tactic(auto, unfolding(crate::specs::Instructions::inst_pieces))]
-fn put_cond_br(line: &mut Text, cond: &Operand, met: &[u8], unmet: &[u8]) -> Result<(), Memory>
-    ensures { OnOk result (line.new ≡ with_pieces line.old (Spec.inst_pieces (Inst.CondBr cond.now met.now unmet.now))) }
+fn put_cond_br<P: Printer>(line: &mut P, cond: &Operand, met: &[u8], unmet: &[u8])
+    ensures { Puts (P.state line.old) (P.state line.new) (Spec.inst_text (Inst.CondBr cond.now met.now unmet.now)) }
 {
-    line.extend(b"br ")?;
-    put_typed(line, cond, &Ty::Int(Width::W1))?;
-    line.extend(b", ")?;
-    put_to(line, met)?;
-    line.extend(b", ")?;
+    line.put(b"br ");
+    put_typed(line, cond, &Ty::Int(Width::W1));
+    line.put(b", ");
+    put_to(line, met);
+    line.put(b", ");
     put_to(line, unmet)
 }
 
 #[tactic(auto, unfolding(crate::specs::Instructions::inst_pieces))]
-fn put_switch(
-    line: &mut Text,
+fn put_switch<P: Printer>(
+    line: &mut P,
     width: Width,
     value: &Operand,
     other: &[u8],
     cases: &[(u64, Text)],
-) -> Result<(), Memory>
-    ensures { OnOk result (line.new ≡ with_pieces line.old (Spec.inst_pieces (Inst.Switch width value.now other.now cases.now))) }
+)
+    ensures { Puts (P.state line.old) (P.state line.new) (Spec.inst_text (Inst.Switch width value.now other.now cases.now)) }
 {
-    line.extend(b"switch ")?;
-    put_typed(line, value, &Ty::Int(width))?;
-    line.extend(b", ")?;
-    put_to(line, other)?;
-    line.extend(b" [")?;
-    put_cases(line, cases, width)?;
-    line.extend(b"]")
+    line.put(b"switch ");
+    put_typed(line, value, &Ty::Int(width));
+    line.put(b", ");
+    put_to(line, other);
+    line.put(b" [");
+    put_cases(line, cases, width);
+    line.put(b"]")
 }
 
 #[tactic(auto, unfolding(crate::specs::Instructions::inst_pieces))]
-fn put_ret(line: &mut Text, ty: &Ty, value: &Option<Operand>) -> Result<(), Memory>
-    ensures { OnOk result (line.new ≡ with_pieces line.old (Spec.inst_pieces (Inst.Ret ty.now value.now))) }
+fn put_ret<P: Printer>(line: &mut P, ty: &Ty, value: &Option<Operand>)
+    ensures { Puts (P.state line.old) (P.state line.new) (Spec.inst_text (Inst.Ret ty.now value.now)) }
 {
     match value {
-        None => line.extend(b"ret void"),
-        Some(value) => {
-            line.extend(b"ret ")?;
-            put_typed(line, value, ty)
-        }
+        None => line.put(b"ret void"),
+        Some(value) => put_ret_value(line, ty, value),
     }
 }
 
-#[tactic(auto, unfolding(crate::specs::Instructions::inst_pieces))]
-fn put_unreachable(line: &mut Text) -> Result<(), Memory>
-    ensures { OnOk result (line.new ≡ with_pieces line.old (Spec.inst_pieces Inst.Unreachable)) }
+fn put_ret_value<P: Printer>(line: &mut P, ty: &Ty, value: &Operand)
+    ensures { Puts (P.state line.old) (P.state line.new) (codes "ret " ++ typed_text ty.now value.now) }
 {
-    line.extend(b"unreachable")
+    line.put(b"ret ");
+    put_typed(line, value, ty)
 }
 
 #[tactic(auto, unfolding(crate::specs::Instructions::inst_pieces))]
-fn put_trap(line: &mut Text, code: Option<u8>) -> Result<(), Memory>
-    ensures { OnOk result (line.new ≡ with_pieces line.old (Spec.inst_pieces (Inst.Trap code))) }
+fn put_unreachable<P: Printer>(line: &mut P)
+    ensures { Puts (P.state line.old) (P.state line.new) (Spec.inst_text Inst.Unreachable) }
+{
+    line.put(b"unreachable")
+}
+
+#[tactic(auto, unfolding(crate::specs::Instructions::inst_pieces))]
+fn put_trap<P: Printer>(line: &mut P, code: Option<u8>)
+    ensures { Puts (P.state line.old) (P.state line.new) (Spec.inst_text (Inst.Trap code)) }
 {
     match code {
-        None => line.extend(b"call void @llvm.trap()"),
-        Some(code) => {
-            line.extend(b"call void @llvm.ubsantrap(i8 ")?;
-            put_integer(line, Width::W8, u64::from(code))?;
-            line.extend(b")")
-        }
+        None => line.put(b"call void @llvm.trap()"),
+        Some(code) => put_coded_trap(line, code),
     }
 }
 
-#[tactic(auto, unfolding(crate::specs::Instructions::inst_pieces))]
-fn put_test(line: &mut Text, dst: &[u8], ptr: &Operand, id: &TypeId) -> Result<(), Memory>
-    ensures { OnOk result (line.new ≡ with_pieces line.old (Spec.inst_pieces (Inst.Test dst.now ptr.now id.now))) }
+fn put_coded_trap<P: Printer>(line: &mut P, code: u8)
+    ensures { Puts (P.state line.old) (P.state line.new) (codes "call void @llvm.ubsantrap(i8 " ++ integer_text Width.W8 code ++ codes ")") }
 {
-    put_local(line, dst)?;
-    line.extend(b" = call i1 @llvm.type.test(")?;
-    put_typed(line, ptr, &Ty::Ptr)?;
-    line.extend(b", metadata ")?;
-    put_id(line, id)?;
-    line.extend(b")")
+    line.put(b"call void @llvm.ubsantrap(i8 ");
+    put_integer(line, Width::W8, u64::from(code));
+    line.put(b")")
 }
 
 #[tactic(auto, unfolding(crate::specs::Instructions::inst_pieces))]
-fn put_assume(line: &mut Text, cond: &Operand) -> Result<(), Memory>
-    ensures { OnOk result (line.new ≡ with_pieces line.old (Spec.inst_pieces (Inst.Assume cond.now))) }
+fn put_test<P: Printer>(line: &mut P, dst: &[u8], ptr: &Operand, id: &TypeId)
+    ensures { Puts (P.state line.old) (P.state line.new) (Spec.inst_text (Inst.Test dst.now ptr.now id.now)) }
 {
-    line.extend(b"call void @llvm.assume(")?;
-    put_typed(line, cond, &Ty::Int(Width::W1))?;
-    line.extend(b")")
+    put_local(line, dst);
+    line.put(b" = call i1 @llvm.type.test(");
+    put_typed(line, ptr, &Ty::Ptr);
+    line.put(b", metadata ");
+    put_id(line, id);
+    line.put(b")")
 }
 
 #[tactic(auto, unfolding(crate::specs::Instructions::inst_pieces))]
-fn put_checked_load(
-    line: &mut Text,
-    dst: &[u8],
-    ptr: &Operand,
-    offset: i32,
-    id: &TypeId,
-) -> Result<(), Memory>
-    ensures { OnOk result (line.new ≡ with_pieces line.old (Spec.inst_pieces (Inst.CheckedLoad dst.now ptr.now offset id.now))) }
+fn put_assume<P: Printer>(line: &mut P, cond: &Operand)
+    ensures { Puts (P.state line.old) (P.state line.new) (Spec.inst_text (Inst.Assume cond.now)) }
 {
-    put_checked_start(line, dst)?;
-    put_typed(line, ptr, &Ty::Ptr)?;
-    line.extend(b", i32 ")?;
-    put_signed_decimal(line, offset)?;
-    line.extend(b", metadata ")?;
-    put_id(line, id)?;
-    line.extend(b")")
-}
-
-fn put_checked_start(line: &mut Text, dst: &[u8]) -> Result<(), Memory>
-    ensures { OnOk result (line.new ≡ with_pieces line.old
-        (local_text dst.now ∷ codes " = call " ∷ pair_text ∷ codes " @llvm.type.checked.load(" ∷ [])) }
-{
-    put_local(line, dst)?;
-    line.extend(b" = call ")?;
-    put_pair(line)?;
-    line.extend(b" @llvm.type.checked.load(")
+    line.put(b"call void @llvm.assume(");
+    put_typed(line, cond, &Ty::Int(Width::W1));
+    line.put(b")")
 }
 
 #[tactic(auto, unfolding(crate::specs::Instructions::inst_pieces))]
-fn put_number(line: &mut Text, dst: &[u8], ptr: &Operand) -> Result<(), Memory>
-    ensures { OnOk result (line.new ≡ with_pieces line.old (Spec.inst_pieces (Inst.Number dst.now ptr.now))) }
+fn put_checked_load<P: Printer>(line: &mut P, dst: &[u8], ptr: &Operand, offset: i32, id: &TypeId)
+    ensures { Puts (P.state line.old) (P.state line.new) (Spec.inst_text (Inst.CheckedLoad dst.now ptr.now offset id.now)) }
 {
-    put_local(line, dst)?;
-    line.extend(b" = ptrtoint ")?;
-    put_typed(line, ptr, &Ty::Ptr)?;
-    line.extend(b" to i64")
+    put_local(line, dst);
+    line.put(b" = call ");
+    put_pair(line);
+    line.put(b" @llvm.type.checked.load(");
+    put_typed(line, ptr, &Ty::Ptr);
+    line.put(b", i32 ");
+    put_signed_decimal(line, offset);
+    line.put(b", metadata ");
+    put_id(line, id);
+    line.put(b")")
 }
 
 #[tactic(auto, unfolding(crate::specs::Instructions::inst_pieces))]
-fn put_rotate(line: &mut Text, dst: &[u8], value: &Operand, by: u8) -> Result<(), Memory>
-    ensures { OnOk result (line.new ≡ with_pieces line.old (Spec.inst_pieces (Inst.Rotate dst.now value.now by))) }
+fn put_number<P: Printer>(line: &mut P, dst: &[u8], ptr: &Operand)
+    ensures { Puts (P.state line.old) (P.state line.new) (Spec.inst_text (Inst.Number dst.now ptr.now)) }
 {
-    put_local(line, dst)?;
-    line.extend(b" = call i64 @llvm.fshr.i64(")?;
-    put_typed(line, value, &Ty::Int(Width::W64))?;
-    line.extend(b", ")?;
-    put_typed(line, value, &Ty::Int(Width::W64))?;
-    line.extend(b", i64 ")?;
-    put_decimal(line, u64::from(by))?;
-    line.extend(b")")
+    put_local(line, dst);
+    line.put(b" = ptrtoint ");
+    put_typed(line, ptr, &Ty::Ptr);
+    line.put(b" to i64")
+}
+
+#[tactic(auto, unfolding(crate::specs::Instructions::inst_pieces))]
+fn put_rotate<P: Printer>(line: &mut P, dst: &[u8], value: &Operand, by: u8)
+    ensures { Puts (P.state line.old) (P.state line.new) (Spec.inst_text (Inst.Rotate dst.now value.now by)) }
+{
+    put_local(line, dst);
+    line.put(b" = call i64 @llvm.fshr.i64(");
+    put_typed(line, value, &Ty::Int(Width::W64));
+    line.put(b", ");
+    put_typed(line, value, &Ty::Int(Width::W64));
+    line.put(b", i64 ");
+    put_decimal(line, u64::from(by));
+    line.put(b")")
 }

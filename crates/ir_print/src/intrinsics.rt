@@ -1,10 +1,11 @@
 // The intrinsics that an output may call.
-ghost use Rattle.std.specs.Prelude.{◌≡◌, ◌++◌, true, OnOk};
+ghost use Rattle.std.specs.Prelude.{◌≡◌, ◌++◌, true};
 ghost use Rattle.std.specs.List.{list_any};
 ghost use Rattle.ir_print.specs.ModuleText as Spec;
+ghost use Rattle.ir_print.specs.Puts.{Puts};
 
-use ir_values::{Block, Func, Inst};
-use ltt_base::{Memory, Text};
+use crate::output::Printer;
+use ir_values::{Block, Func, Inst, Module};
 
 /// An intrinsic that is declared where it is called: `llvm.fshr.i64`, `llvm.trap` or `llvm.ubsantrap`.
 #[derive(Clone, Copy)]
@@ -14,20 +15,37 @@ pub enum Intrinsic {
     CodedTrap,
 }
 
-/// Prints the declaration of an intrinsic.
-#[tactic(auto, unfolding(crate::specs::ModuleText::intrinsic_text))]
-pub fn put_intrinsic(line: &mut Text, intrinsic: Intrinsic) -> Result<(), Memory>
-    ensures { OnOk result (line.new ≡ line.old ++ Spec.intrinsic_text intrinsic) }
+/// Prints the declarations of the intrinsics that a module calls.
+pub fn put_intrinsics<P: Printer>(line: &mut P, m: &Module)
+    ensures { Puts (P.state line.old) (P.state line.new) (Spec.intrinsics_text m.now) }
 {
-    match intrinsic {
-        Intrinsic::Rotation => line.extend(b"declare i64 @llvm.fshr.i64(i64, i64, i64)\n"),
-        Intrinsic::Trap => line.extend(b"declare void @llvm.trap()\n"),
-        Intrinsic::CodedTrap => line.extend(b"declare void @llvm.ubsantrap(i8)\n"),
+    put_called(line, m, Intrinsic::Rotation);
+    put_called(line, m, Intrinsic::Trap);
+    put_called(line, m, Intrinsic::CodedTrap)
+}
+
+fn put_called<P: Printer>(line: &mut P, m: &Module, intrinsic: Intrinsic)
+    ensures { Puts (P.state line.old) (P.state line.new) (Spec.called_text m.now intrinsic) }
+{
+    if is_called(intrinsic, m.funcs.items()) {
+        put_intrinsic(line, intrinsic)
+    } else {
+        line.put(b"")
     }
 }
 
-/// Whether one of these functions calls an intrinsic.
-pub fn is_called(intrinsic: Intrinsic, funcs: &[Func]) -> bool
+#[tactic(auto, unfolding(crate::specs::ModuleText::intrinsic_text))]
+fn put_intrinsic<P: Printer>(line: &mut P, intrinsic: Intrinsic)
+    ensures { Puts (P.state line.old) (P.state line.new) (Spec.intrinsic_text intrinsic) }
+{
+    match intrinsic {
+        Intrinsic::Rotation => line.put(b"declare i64 @llvm.fshr.i64(i64, i64, i64)\n"),
+        Intrinsic::Trap => line.put(b"declare void @llvm.trap()\n"),
+        Intrinsic::CodedTrap => line.put(b"declare void @llvm.ubsantrap(i8)\n"),
+    }
+}
+
+fn is_called(intrinsic: Intrinsic, funcs: &[Func]) -> bool
     ensures { result ≡ Spec.is_called intrinsic funcs.now }
 {
     funcs

@@ -1,20 +1,21 @@
 // Names, bare where they can be.
-ghost use Rattle.std.specs.Prelude.{◌≡◌, ◌^◌, ◌<◌, ◌≤◌, ◌++◌, length, true, ◌||◌, IsTrue, OnOk};
+ghost use Rattle.std.specs.Prelude.{◌≡◌, ◌^◌, ◌<◌, ◌≤◌, length, true, ◌||◌, flat_map, IsTrue};
 ghost use Rattle.std.specs.List.{list_all};
 ghost use Rattle.std.specs.Fmt.{digit_glyph};
 ghost use Rattle.ir_print.specs.Names as Spec;
+ghost use Rattle.ir_print.specs.Puts.{Puts};
 
-use ltt_base::{Memory, Text};
+use crate::output::Printer;
 
-/// Adds a name to a text, without its sign: bare where it can be, else between quotes.
+/// Prints a name, without its sign: bare where it can be, else between quotes.
 ///
 /// Source: LLVM Language Reference, "Identifiers".
 #[tactic(auto, unfolding(crate::specs::Names::name_text))]
-pub fn put_name(line: &mut Text, name: &[u8]) -> Result<(), Memory>
-    ensures { OnOk result (line.new ≡ line.old ++ Spec.name_text name.now) }
+pub fn put_name<P: Printer>(line: &mut P, name: &[u8])
+    ensures { Puts (P.state line.old) (P.state line.new) (Spec.name_text name.now) }
 {
     if needs_no_quotes(name) {
-        line.extend(name)
+        line.put(name)
     } else {
         put_quoted(line, name)
     }
@@ -26,42 +27,48 @@ fn needs_no_quotes(name: &[u8]) -> bool
     is_bare(name) || is_number(name)
 }
 
-/// Adds a global's name to a text, behind `@`.
-pub fn put_global(line: &mut Text, name: &[u8]) -> Result<(), Memory>
-    ensures { OnOk result (line.new ≡ line.old ++ Spec.global_text name.now) }
+/// Prints a global's name, behind `@`.
+pub fn put_global<P: Printer>(line: &mut P, name: &[u8])
+    ensures { Puts (P.state line.old) (P.state line.new) (Spec.global_text name.now) }
 {
-    line.extend(b"@")?;
+    line.put(b"@");
     put_name(line, name)
 }
 
-/// Adds a register's or a block's name to a text, behind `%`.
-pub fn put_local(line: &mut Text, name: &[u8]) -> Result<(), Memory>
-    ensures { OnOk result (line.new ≡ line.old ++ Spec.local_text name.now) }
+/// Prints a register's or a block's name, behind `%`.
+pub fn put_local<P: Printer>(line: &mut P, name: &[u8])
+    ensures { Puts (P.state line.old) (P.state line.new) (Spec.local_text name.now) }
 {
-    line.extend(b"%")?;
+    line.put(b"%");
     put_name(line, name)
 }
 
-/// Adds bytes to a text, between quotes and with escapes.
+/// Prints bytes between quotes and with escapes.
 ///
 /// Source: LLVM Language Reference, "String constants".
-pub fn put_quoted(line: &mut Text, text: &[u8]) -> Result<(), Memory>
-    ensures { OnOk result (line.new ≡ line.old ++ Spec.quoted text.now) }
+pub fn put_quoted<P: Printer>(line: &mut P, text: &[u8])
+    ensures { Puts (P.state line.old) (P.state line.new) (Spec.quoted text.now) }
 {
-    line.extend(b"\"")?;
-    for byte in text {
-        put_escape(line, *byte)?;
-    }
-    line.extend(b"\"")
+    line.put(b"\"");
+    put_escapes(line, text);
+    line.put(b"\"");
 }
 
-fn put_escape(line: &mut Text, byte: u8) -> Result<(), Memory>
-    ensures { OnOk result (line.new ≡ line.old ++ Spec.escape byte) }
+fn put_escapes<P: Printer>(line: &mut P, text: &[u8])
+    ensures { Puts (P.state line.old) (P.state line.new) (flat_map Spec.escape text.now) }
+{
+    for byte in text {
+        put_escape(line, *byte);
+    }
+}
+
+fn put_escape<P: Printer>(line: &mut P, byte: u8)
+    ensures { Puts (P.state line.old) (P.state line.new) (Spec.escape byte) }
 {
     if is_plain(byte) {
-        line.extend(&[byte])
+        line.put(&[byte])
     } else {
-        line.extend(&[b'\\', hex_digit(byte / 16), hex_digit(byte % 16)])
+        line.put(&[b'\\', hex_digit(byte / 16), hex_digit(byte % 16)])
     }
 }
 

@@ -1,32 +1,33 @@
 // Integers.
-ghost use Rattle.std.specs.Prelude.{◌≡◌, ◌*◌, ◌<◌, ◌++◌, decimal, OnOk};
+ghost use Rattle.std.specs.Prelude.{◌≡◌, ◌*◌, ◌<◌, ◌++◌, codes, decimal};
 ghost use Rattle.std.specs.Fmt.{signed_decimal};
 ghost use Rattle.ir_print.specs.Numbers as Spec;
+ghost use Rattle.ir_print.specs.Puts.{Puts};
 
+use crate::output::Printer;
 use ir_values::Width;
 use itoa::Buffer;
-use ltt_base::{Memory, Text};
 
 /// Prints a number in decimal.
-pub fn put_decimal(line: &mut Text, n: u64) -> Result<(), Memory>
-    ensures { OnOk result (line.new ≡ line.old ++ decimal n) }
+pub fn put_decimal<P: Printer>(line: &mut P, n: u64)
+    ensures { Puts (P.state line.old) (P.state line.new) (decimal n) }
 {
-    line.extend(Buffer::new().format(n).as_bytes())
+    line.put(Buffer::new().format(n).as_bytes())
 }
 
 /// Prints a signed number in decimal.
-pub fn put_signed_decimal(line: &mut Text, n: i32) -> Result<(), Memory>
-    ensures { OnOk result (line.new ≡ line.old ++ signed_decimal n) }
+pub fn put_signed_decimal<P: Printer>(line: &mut P, n: i32)
+    ensures { Puts (P.state line.old) (P.state line.new) (signed_decimal n) }
 {
-    line.extend(Buffer::new().format(n).as_bytes())
+    line.put(Buffer::new().format(n).as_bytes())
 }
 
-/// Adds an integer to a text, in signed decimal; one of type i1 as `true` or `false`.
+/// Prints an integer in signed decimal; one of type i1 as `true` or `false`.
 ///
 /// Source: LLVM Language Reference, "Simple Constants".
 #[tactic(auto, unfolding(crate::specs::Numbers::integer_text))]
-pub fn put_integer(line: &mut Text, width: Width, n: u64) -> Result<(), Memory>
-    ensures { OnOk result (line.new ≡ line.old ++ Spec.integer_text width n) }
+pub fn put_integer<P: Printer>(line: &mut P, width: Width, n: u64)
+    ensures { Puts (P.state line.old) (P.state line.new) (Spec.integer_text width n) }
 {
     match width {
         Width::W1 => put_truth(line, n % 2),
@@ -37,24 +38,30 @@ pub fn put_integer(line: &mut Text, width: Width, n: u64) -> Result<(), Memory>
     }
 }
 
-fn put_truth(line: &mut Text, n: u64) -> Result<(), Memory>
-    ensures { OnOk result (line.new ≡ line.old ++ Spec.truth_text n) }
+fn put_truth<P: Printer>(line: &mut P, n: u64)
+    ensures { Puts (P.state line.old) (P.state line.new) (Spec.truth_text n) }
 {
     if n == 0 {
-        line.extend(b"false")
+        line.put(b"false")
     } else {
-        line.extend(b"true")
+        line.put(b"true")
     }
 }
 
-fn put_signed(line: &mut Text, half: u64, n: u64) -> Result<(), Memory>
+fn put_signed<P: Printer>(line: &mut P, half: u64, n: u64)
     requires { n < 2 * half }
-    ensures { OnOk result (line.new ≡ line.old ++ Spec.signed_text half n) }
+    ensures { Puts (P.state line.old) (P.state line.new) (Spec.signed_text half n) }
 {
     if n < half {
         put_decimal(line, n)
     } else {
-        line.extend(b"-")?;
-        put_decimal(line, half - (n - half))
+        put_negative(line, half - (n - half))
     }
+}
+
+fn put_negative<P: Printer>(line: &mut P, magnitude: u64)
+    ensures { Puts (P.state line.old) (P.state line.new) (codes "-" ++ decimal magnitude) }
+{
+    line.put(b"-");
+    put_decimal(line, magnitude)
 }

@@ -1,12 +1,16 @@
+use crate::buffer::Buffer;
 use crate::constants::{put_operand, put_typed_const};
 use crate::instructions::put_inst;
-use crate::names::put_name;
+use crate::names::{put_global, put_local, put_name, put_quoted};
 use crate::numbers::put_integer;
+use crate::output::Output;
+use crate::parts::{put_cast, put_op, put_pred};
+use crate::printing::print_waiting;
 use crate::types::put_ty;
 use crate::{PrintFault, print_module};
 use ir_values::{
-    BinOp, Callee, CastOp, Const, FuncTy, Inst, Linkage, Module, Operand, Pred, Ty, TypeId, Var,
-    Width,
+    BinOp, Block, Callee, CastOp, Const, Func, FuncTy, Inst, Jump, Linkage, Module, Operand, Pred,
+    Ty, TypeId, Var, Width,
 };
 use ltt_base::{Boxed, List, MemSink, Memory, Place, Text};
 use std::alloc::Global;
@@ -32,16 +36,88 @@ fn int(width: Width, n: u64) -> Operand {
     Operand::Const(Const::Int(width, n))
 }
 
+/// An output through a buffer of eight bytes.
+fn output<'a>(alloc: Global, sink: &'a mut MemSink) -> Result<Output<'a, MemSink>, Memory> {
+    Ok(Output {
+        sink,
+        buffer: Buffer::new(alloc, 8)?,
+        failed: false,
+    })
+}
+
+fn print_inst(alloc: Global, sink: &mut MemSink, inst: &Inst) -> Result<bool, Memory> {
+    let mut line = output(alloc, sink)?;
+    put_inst(&mut line, inst);
+    Ok(line.finish().is_ok())
+}
+
 fn is_inst(alloc: Global, inst: &Inst, want: &[u8]) -> Result<bool, Memory> {
-    let mut line = Text::new(alloc);
-    put_inst(&mut line, inst)?;
-    Ok(line.bytes() == want)
+    let mut sink = MemSink::new(alloc, 512, 512)?;
+    Ok(print_inst(alloc, &mut sink, inst)? && sink.taken() == want)
+}
+
+fn print_const(alloc: Global, sink: &mut MemSink, value: &Const, ty: &Ty) -> Result<bool, Memory> {
+    let mut line = output(alloc, sink)?;
+    put_typed_const(&mut line, value, ty);
+    Ok(line.finish().is_ok())
 }
 
 fn is_const(alloc: Global, value: &Const, ty: &Ty, want: &[u8]) -> Result<bool, Memory> {
-    let mut line = Text::new(alloc);
-    put_typed_const(&mut line, value, ty)?;
-    Ok(line.bytes() == want)
+    let mut sink = MemSink::new(alloc, 512, 512)?;
+    Ok(print_const(alloc, &mut sink, value, ty)? && sink.taken() == want)
+}
+
+fn print_name(alloc: Global, sink: &mut MemSink, name: &[u8]) -> Result<bool, Memory> {
+    let mut line = output(alloc, sink)?;
+    put_name(&mut line, name);
+    Ok(line.finish().is_ok())
+}
+
+fn print_integer(alloc: Global, sink: &mut MemSink, width: Width, n: u64) -> Result<bool, Memory> {
+    let mut line = output(alloc, sink)?;
+    put_integer(&mut line, width, n);
+    Ok(line.finish().is_ok())
+}
+
+fn print_op(alloc: Global, sink: &mut MemSink, op: BinOp) -> Result<bool, Memory> {
+    let mut line = output(alloc, sink)?;
+    put_op(&mut line, op);
+    Ok(line.finish().is_ok())
+}
+
+fn print_pred(alloc: Global, sink: &mut MemSink, pred: Pred) -> Result<bool, Memory> {
+    let mut line = output(alloc, sink)?;
+    put_pred(&mut line, pred);
+    Ok(line.finish().is_ok())
+}
+
+fn print_value(
+    alloc: Global,
+    sink: &mut MemSink,
+    value: &Operand,
+    ty: &Ty,
+) -> Result<bool, Memory> {
+    let mut line = output(alloc, sink)?;
+    put_operand(&mut line, value, ty);
+    Ok(line.finish().is_ok())
+}
+
+fn print_types(alloc: Global, sink: &mut MemSink) -> Result<bool, Memory> {
+    let mut line = output(alloc, sink)?;
+    put_ty(&mut line, &Ty::Void);
+    put_ty(&mut line, &Ty::Pair);
+    put_ty(&mut line, &Ty::Int(Width::W16));
+    Ok(line.finish().is_ok())
+}
+
+fn print_signs(alloc: Global, sink: &mut MemSink) -> Result<bool, Memory> {
+    let mut line = output(alloc, sink)?;
+    put_global(&mut line, b"a longer name");
+    put_local(&mut line, b"7");
+    put_quoted(&mut line, b"bare");
+    put_cast(&mut line, CastOp::Zext);
+    put_cast(&mut line, CastOp::Sext);
+    Ok(line.finish().is_ok())
 }
 
 #[test]
@@ -62,9 +138,9 @@ fn names_are_bare_where_they_can_be(rt: HostRuntime) -> Result<(), Fail> {
         (b"18446744073709551616", b"\"18446744073709551616\""),
     ];
     for (name, want) in table {
-        let mut line = Text::new(rt.alloc());
-        put_name(&mut line, name)?;
-        assert_eq!(rt; line.bytes(), want);
+        let mut sink = MemSink::new(rt.alloc(), 64, 5)?;
+        assert!(rt; print_name(rt.alloc(), &mut sink, name)?);
+        assert_eq!(rt; sink.taken(), want);
     }
     Ok(())
 }
@@ -84,9 +160,9 @@ fn integers_are_signed(rt: HostRuntime) -> Result<(), Fail> {
         (Width::W64, 0x7fff_ffff_ffff_ffff, b"9223372036854775807"),
     ];
     for (width, n, want) in table {
-        let mut line = Text::new(rt.alloc());
-        put_integer(&mut line, width, n)?;
-        assert_eq!(rt; line.bytes(), want);
+        let mut sink = MemSink::new(rt.alloc(), 64, 64)?;
+        assert!(rt; print_integer(rt.alloc(), &mut sink, width, n)?);
+        assert_eq!(rt; sink.taken(), want);
     }
     Ok(())
 }
@@ -134,30 +210,100 @@ fn constants_stand_behind_their_types(rt: HostRuntime) -> Result<(), Fail> {
     Ok(())
 }
 
-#[test]
-fn constants_of_units_are_printed_as_they_were_written(rt: HostRuntime) -> Result<(), Fail> {
-    let alloc = rt.alloc();
-    let zero = Const::Typed(
-        Ty::Int(Width::W32),
-        Boxed::new(alloc, Const::Int(Width::W32, 0))?,
-    );
+/// An address in a variable, as a unit has it.
+fn address(alloc: Global) -> Result<Operand, Memory> {
+    let zero = Boxed::new(alloc, Const::Int(Width::W32, 0))?;
+    let index = Operand::Const(Const::Typed(Ty::Int(Width::W32), zero));
     let base = Boxed::new(alloc, Const::Addr(Text::copy(alloc, b"v")?, 0))?;
     let named = Ty::Named(Text::copy(alloc, b"class.A")?);
-    let gep = Const::Gep(named, base, one(alloc, Operand::Const(zero))?);
-    let mut line = Text::new(alloc);
-    put_operand(&mut line, &Operand::Const(gep), &Ty::Ptr)?;
+    Ok(Operand::Const(Const::Gep(named, base, one(alloc, index)?)))
+}
+
+#[test]
+fn addresses_of_units_are_printed_as_they_were_written(rt: HostRuntime) -> Result<(), Fail> {
+    let alloc = rt.alloc();
+    let value = address(alloc)?;
+    let mut sink = MemSink::new(alloc, 64, 64)?;
+    assert!(rt; print_value(alloc, &mut sink, &value, &Ty::Ptr)?);
     assert_eq!(rt;
-        line.bytes(),
+        sink.taken(),
         b"getelementptr (%class.A, ptr @v, i32 0)".as_slice()
     );
+    Ok(())
+}
+
+#[test]
+fn texts_that_units_leave_are_printed_as_they_were_written(rt: HostRuntime) -> Result<(), Fail> {
+    let alloc = rt.alloc();
     let left = Const::Left(Text::copy(alloc, b"undef")?);
-    let left_ty = Ty::Left(Text::copy(alloc, b"<2 x i8>")?);
-    assert!(rt; is_const(alloc, &left, &left_ty, b"<2 x i8> undef")?);
-    let mut types = Text::new(alloc);
-    put_ty(&mut types, &Ty::Void)?;
-    put_ty(&mut types, &Ty::Pair)?;
-    put_ty(&mut types, &Ty::Int(Width::W16))?;
-    assert_eq!(rt; types.bytes(), b"void{ ptr, i1 }i16".as_slice());
+    let ty = Ty::Left(Text::copy(alloc, b"<2 x i8>")?);
+    assert!(rt; is_const(alloc, &left, &ty, b"<2 x i8> undef")?);
+    Ok(())
+}
+
+#[test]
+fn types_are_printed(rt: HostRuntime) -> Result<(), Fail> {
+    let mut sink = MemSink::new(rt.alloc(), 64, 64)?;
+    assert!(rt; print_types(rt.alloc(), &mut sink)?);
+    assert_eq!(rt; sink.taken(), b"void{ ptr, i1 }i16".as_slice());
+    Ok(())
+}
+
+#[test]
+fn operations_have_their_words(rt: HostRuntime) -> Result<(), Fail> {
+    let table: [(BinOp, &[u8]); 13] = [
+        (BinOp::Add, b"add"),
+        (BinOp::Sub, b"sub"),
+        (BinOp::Mul, b"mul"),
+        (BinOp::UDiv, b"udiv"),
+        (BinOp::SDiv, b"sdiv"),
+        (BinOp::URem, b"urem"),
+        (BinOp::SRem, b"srem"),
+        (BinOp::Shl, b"shl"),
+        (BinOp::LShr, b"lshr"),
+        (BinOp::AShr, b"ashr"),
+        (BinOp::And, b"and"),
+        (BinOp::Or, b"or"),
+        (BinOp::Xor, b"xor"),
+    ];
+    for (op, want) in table {
+        let mut sink = MemSink::new(rt.alloc(), 8, 8)?;
+        assert!(rt; print_op(rt.alloc(), &mut sink, op)?);
+        assert_eq!(rt; sink.taken(), want);
+    }
+    Ok(())
+}
+
+#[test]
+fn comparisons_have_their_words(rt: HostRuntime) -> Result<(), Fail> {
+    let table: [(Pred, &[u8]); 10] = [
+        (Pred::Eq, b"eq"),
+        (Pred::Ne, b"ne"),
+        (Pred::Ugt, b"ugt"),
+        (Pred::Uge, b"uge"),
+        (Pred::Ult, b"ult"),
+        (Pred::Ule, b"ule"),
+        (Pred::Sgt, b"sgt"),
+        (Pred::Sge, b"sge"),
+        (Pred::Slt, b"slt"),
+        (Pred::Sle, b"sle"),
+    ];
+    for (pred, want) in table {
+        let mut sink = MemSink::new(rt.alloc(), 8, 8)?;
+        assert!(rt; print_pred(rt.alloc(), &mut sink, pred)?);
+        assert_eq!(rt; sink.taken(), want);
+    }
+    Ok(())
+}
+
+#[test]
+fn signs_stand_before_names(rt: HostRuntime) -> Result<(), Fail> {
+    let mut sink = MemSink::new(rt.alloc(), 64, 3)?;
+    assert!(rt; print_signs(rt.alloc(), &mut sink)?);
+    assert_eq!(rt;
+        sink.taken(),
+        b"@\"a longer name\"%7\"bare\"zextsext".as_slice()
+    );
     Ok(())
 }
 
@@ -480,5 +626,155 @@ fn a_sink_without_room_fails(rt: HostRuntime) -> Result<(), Fail> {
     let mut out = MemSink::new(alloc, 20, 7)?;
     assert!(rt; matches!(print_module(alloc, &m, &mut out), Err(PrintFault::Write)));
     assert_eq!(rt; out.taken(), b"@e = external global".as_slice());
+    Ok(())
+}
+
+/// The text of the small module, of which a sink takes less where a write fails.
+const SMALL: &[u8] = b"@e = external global ptr, align 8\n";
+
+#[test]
+fn a_write_that_fails_leaves_a_prefix(rt: HostRuntime) -> Result<(), Fail> {
+    let alloc = rt.alloc();
+    let m = small(alloc)?;
+    // a buffer of eight bytes, a sink that takes seven at a time: the write that fails, and what came before it
+    let table: [(u64, usize); 8] = [
+        (1, 0),
+        (2, 5),
+        (3, 12),
+        (4, 14),
+        (5, 21),
+        (6, 24),
+        (7, 31),
+        (8, 32),
+    ];
+    for (failing, length) in table {
+        let mut out = MemSink::new(alloc, 64, 7)?;
+        out.fail_write(failing)?;
+        assert!(rt;
+            matches!(
+                print_waiting(alloc, 8, &m, &mut out),
+                Err(PrintFault::Write)
+            )
+        );
+        assert_eq!(rt; out.taken(), &SMALL[..length]);
+    }
+    let mut out = MemSink::new(alloc, 64, 7)?;
+    out.fail_write(9)?;
+    assert!(rt; print_waiting(alloc, 8, &m, &mut out).is_ok());
+    assert_eq!(rt; out.taken(), SMALL);
+    Ok(())
+}
+
+fn table_of(alloc: Global) -> Result<Jump, Memory> {
+    Ok(Jump {
+        place: no_place(),
+        name: Text::copy(alloc, b".ltt.jt.0")?,
+        funcs: two(alloc, Text::copy(alloc, b"f")?, Text::copy(alloc, b"g h")?)?,
+    })
+}
+
+fn function(
+    alloc: Global,
+    name: &[u8],
+    linkage: Linkage,
+    blocks: List<Block>,
+) -> Result<Func, Memory> {
+    let fty = FuncTy {
+        result: Ty::Void,
+        params: two(alloc, Ty::Ptr, Ty::Int(Width::W8))?,
+    };
+    Ok(Func {
+        place: no_place(),
+        name: Text::copy(alloc, name)?,
+        linkage,
+        fty,
+        params: two(alloc, Text::copy(alloc, b"p")?, Text::copy(alloc, b"0")?)?,
+        blocks,
+        entries: List::new(alloc),
+    })
+}
+
+fn rotation(alloc: Global) -> Result<Inst, Memory> {
+    Ok(Inst::Rotate {
+        dst: Text::copy(alloc, b"r")?,
+        value: int(Width::W64, 1),
+        by: 3,
+    })
+}
+
+fn body(alloc: Global) -> Result<List<Block>, Memory> {
+    let last = Inst::Trap { code: Some(2) };
+    let first = Block {
+        label: Text::copy(alloc, b"a b")?,
+        insts: two(alloc, rotation(alloc)?, Inst::Trap { code: None })?,
+    };
+    let second = Block {
+        label: Text::copy(alloc, b"end")?,
+        insts: two(alloc, last, Inst::Unreachable)?,
+    };
+    two(alloc, first, second)
+}
+
+fn functions(alloc: Global) -> Result<List<Func>, Memory> {
+    let defined = function(alloc, b"f", Linkage::Private, body(alloc)?)?;
+    let declared = function(alloc, b"g h", Linkage::External, List::new(alloc))?;
+    two(alloc, defined, declared)
+}
+
+fn variables(alloc: Global) -> Result<List<Var>, Memory> {
+    let init = Some(Const::Null);
+    let held = variable(alloc, b".ltt.gv.0", Linkage::Private, true, init)?;
+    let outside = variable(alloc, b"\"", Linkage::External, false, None)?;
+    two(alloc, held, outside)
+}
+
+fn mixed(alloc: Global) -> Result<Module, Memory> {
+    Ok(Module {
+        vars: variables(alloc)?,
+        funcs: functions(alloc)?,
+        jumps: one(alloc, table_of(alloc)?)?,
+    })
+}
+
+/// Variables, a table, declarations of intrinsics, of a function, and a function.
+const MIXED: &[u8] = b"@.ltt.gv.0 = private constant ptr null, align 8
+@\"\\22\" = external global ptr, align 8
+jumptable @.ltt.jt.0 align 8 { @f, @\"g h\" }
+declare i64 @llvm.fshr.i64(i64, i64, i64)
+declare void @llvm.trap()
+declare void @llvm.ubsantrap(i8)
+declare void @\"g h\"(ptr, i8)
+define private void @f(ptr %p, i8 %0) {
+\"a b\":
+  %r = call i64 @llvm.fshr.i64(i64 1, i64 1, i64 3)
+  call void @llvm.trap()
+end:
+  call void @llvm.ubsantrap(i8 2)
+  unreachable
+}
+";
+
+#[test]
+fn items_stand_in_their_order(rt: HostRuntime) -> Result<(), Fail> {
+    let alloc = rt.alloc();
+    let m = mixed(alloc)?;
+    let mut out = MemSink::new(alloc, 4096, 100)?;
+    assert!(rt; print_module(alloc, &m, &mut out).is_ok());
+    assert_eq!(rt; out.taken(), MIXED);
+    Ok(())
+}
+
+#[test]
+fn an_empty_module_has_no_text(rt: HostRuntime) -> Result<(), Fail> {
+    let alloc = rt.alloc();
+    let m = Module {
+        vars: List::new(alloc),
+        funcs: List::new(alloc),
+        jumps: List::new(alloc),
+    };
+    let mut out = MemSink::new(alloc, 8, 8)?;
+    out.fail_write(1)?;
+    assert!(rt; print_module(alloc, &m, &mut out).is_ok());
+    assert_eq!(rt; out.taken(), b"".as_slice());
     Ok(())
 }

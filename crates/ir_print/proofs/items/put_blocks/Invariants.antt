@@ -1,7 +1,8 @@
-use Rattle.std.proofs.Common.{◌≡◌, ◌++◌, map, drop}
+use Rattle.std.proofs.Common.{take, map}
 use Rattle.std.specs.List.{flat_map}
-use Rattle.ir_print.specs.Items as Spec
+use Rattle.ir_print.specs.Items.{block_text}
+use Rattle.ir_print.specs.Puts.{Puts}
 use Rattle.ir_print.proofs.items.put_blocks.Given as goal
 
 abbrev pub invariant-loop-block : goal.invariant-loop-block
-invariant-loop-block l = l.line ++ flat_map Spec.block_text (drop l.block-index l.blocks) ≡ l.initial.line ++ flat_map Spec.block_text l.blocks
+invariant-loop-block g l = Puts (g.P.Printer.state l.initial.line) (g.P.Printer.state l.line) (flat_map (block_text) (take l.block-index l.blocks))

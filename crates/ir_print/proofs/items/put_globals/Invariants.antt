@@ -1,8 +1,9 @@
-use Rattle.std.proofs.Common.{◌≡◌, ◌++◌, map, drop}
-use Rattle.ir_print.specs.Names.{global_text}
+use Rattle.std.proofs.Common.{take, map}
+use Rattle.std.specs.List.{flat_map}
 use Rattle.ir_print.specs.Pieces.{commas}
-use Rattle.ir_print.specs.Printing.{left_from}
+use Rattle.ir_print.specs.Names.{global_text}
+use Rattle.ir_print.specs.Puts.{Puts}
 use Rattle.ir_print.proofs.items.put_globals.Given as goal
 
 abbrev pub invariant-loop-at : goal.invariant-loop-at
-invariant-loop-at l = l.line ++ left_from l.at (map global_text (drop l.at l.names)) ≡ l.initial.line ++ commas (map global_text l.names)
+invariant-loop-at g l = Puts (g.P.Printer.state l.initial.line) (g.P.Printer.state l.line) (commas (map (global_text) (take l.at l.names)))

@@ -1,7 +1,8 @@
-use Rattle.std.proofs.Common.{◌≡◌, ◌++◌, map, drop}
+use Rattle.std.proofs.Common.{take, map}
 use Rattle.std.specs.List.{flat_map}
-use Rattle.ir_print.specs.Items as Spec
+use Rattle.ir_print.specs.Items.{line_text}
+use Rattle.ir_print.specs.Puts.{Puts}
 use Rattle.ir_print.proofs.items.put_insts.Given as goal
 
 abbrev pub invariant-loop-inst : goal.invariant-loop-inst
-invariant-loop-inst l = l.line ++ flat_map Spec.line_text (drop l.inst-index l.insts) ≡ l.initial.line ++ flat_map Spec.line_text l.insts
+invariant-loop-inst g l = Puts (g.P.Printer.state l.initial.line) (g.P.Printer.state l.line) (flat_map (line_text) (take l.inst-index l.insts))

@@ -1,0 +1,5 @@
+use Rattle.ir_print.proofs.PutLemmas.{puts-then}
+use Rattle.ir_print.proofs.instructions.put_ret_value.Goals as goal
+
+pub returns : goal.returns
+returns g c = puts-then c.put.ensures c.put_typed.ensures

@@ -1,0 +1,5 @@
+use Rattle.ir_print.proofs.PutLemmas.{puts-then}
+use Rattle.ir_print.proofs.items.put_align.Goals as goal
+
+pub returns : goal.returns
+returns g c = puts-then (puts-then c.put.ensures c.put_decimal.ensures) c.put-2.ensures

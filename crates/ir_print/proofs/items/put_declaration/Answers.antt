@@ -1,0 +1,7 @@
+use Rattle.ir_print.specs.Items.{declare_pieces}
+use Rattle.ir_print.proofs.PutLemmas.{puts-then}
+use Rattle.ir_print.proofs.items.put_declaration.Goals as goal
+
+pub returns : goal.returns
+unfolding declare_pieces
+returns g c = puts-then c.put.ensures (puts-then c.put_ty.ensures (puts-then c.put-2.ensures (puts-then (rw c.bytes.ensures at c.put_global.ensures) (puts-then c.put-3.ensures (puts-then (rw c.items.ensures at c.put_types.ensures) c.put-4.ensures)))))
