@@ -1,0 +1,4 @@
+pub mod GatheredLemmas
+pub mod IndexLemmas
+pub mod LabelLemmas
+pub mod StandingLemmas

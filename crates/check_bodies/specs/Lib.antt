@@ -1,0 +1,12 @@
+pub mod Sorts
+pub mod Numbers
+pub mod Standing
+pub mod Structure
+pub mod Gathered
+pub mod Names
+pub mod Index
+pub mod Scope
+pub mod Blocks
+pub mod Sources
+pub mod Labels
+pub mod Bodies

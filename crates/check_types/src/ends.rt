@@ -1,0 +1,63 @@
+ghost use Rattle.std.specs.Prelude.{◌≡◌, IfOk};
+ghost use Rattle.check_types.specs.Named as spec;
+
+use crate::marks::{ending, is_marked};
+use check_names::Context;
+use ltt_base::{List, Memory};
+use std::alloc::Global;
+use std::marker::Model;
+
+/// The units of a file as a `Context` knows them, and which names of types end: replaced by their types, again and again,
+/// they are gone at last.
+///
+/// A look-up takes time that grows with the logarithm of the number of names.
+#[derive(Debug, Drop)]
+pub struct Types<'a> {
+    context: Context<'a>,
+    ending: List<bool>,
+}
+
+impl<'a> Model for Types<'a> {
+    ghost use Rattle.std.specs.Coded.{codes};
+    ghost use Rattle.ir_values.specs.contracts.types.Ty as ty;
+    ghost use Rattle.ir_values.specs.contracts.constants.Const as constant;
+    ghost use Rattle.ir_values.specs.contracts.constants.Operand as operand;
+    ghost use Rattle.ir_values.specs.contracts.units.MetaItem as item;
+    ghost use Rattle.check_names.specs.File.{File};
+
+    ghost Value = { File };
+
+    ghost coded = { Prim.hlevel (codes, ty.the_row.coded, constant.the_row.coded, operand.the_row.coded, item.the_row.coded) };
+
+    ghost view = { λ types. types.context };
+
+    ghost use Rattle.check_types.specs.Marks.{TellEnds};
+
+    // the marks tell which names end
+    ghost invariant = { λ types. TellEnds types.context.units types.ending };
+}
+
+impl<'a> Types<'a> {
+    /// The types of a file.
+    pub fn new(alloc: Global, context: Context<'a>) -> Result<Types<'a>, Memory>
+        ensures { IfOk result (λ types. types ≡ context.entry) }
+    {
+        let ending = ending(alloc, &context)?;
+        Ok(Types { context, ending })
+    }
+
+    /// The file's units, and what defines its names.
+    pub fn context(&self) -> &Context<'a>
+        ensures { result.now ≡ self.now }
+    {
+        &self.context
+    }
+
+    /// Whether a name holds itself, or leads to one that does.
+    #[tactic(auto, unfolding(crate::specs::Named::is_endless))]
+    pub fn is_endless(&self, name: &[u8]) -> bool
+        ensures { result ≡ spec.is_endless self.now.units name.now }
+    {
+        !is_marked(&self.context, self.ending.items(), name)
+    }
+}
