@@ -1,13 +1,13 @@
 -- Names whose replacing ends, and the marks that tell them.
 use Rattle.std.proofs.Common.{◌≡◌, refl, ◌∙◌, ap, sym, subst, ℕ, zero, suc, ◌+◌, ◌-◌, ◌*◌, ◌<◌, ◌≤◌, ◌≢◌, Bool, true, false, cond, not, ◌&&◌, List, [], ◌∷◌, length, get_or, Option, Some, None, arith}
-use Rattle.std.specs.Prelude.{is_none, slice_get, slice_set, find, replicate, nat_eq, ◌||◌}
+use Rattle.std.specs.Prelude.{is_none, slice_set, replicate, nat_eq, ◌||◌}
 use Rattle.std.specs.List.{list_all, position_from}
-use Rattle.std.proofs.lemmas.List.{length-set, get_or-set_same, get_or-set_other, get_or-replicate}
+use Rattle.std.proofs.lemmas.List.{length-set, get_or-set_other}
 use Rattle.ltt_base.specs.declared.refusal.Placed.{Placed}
 use Rattle.ir_values.specs.declared.types.Ty.{Ty}
 use Rattle.ir_values.specs.declared.units.Unit as unit
 use Rattle.check_names.specs.declared.spaces.Space.TheVariants.{Types}
-use Rattle.check_names.specs.Spaces.{first_definition, first_unit, is_definition}
+use Rattle.check_names.specs.Spaces.{first_definition, is_definition}
 use Rattle.check_names.proofs.SearchLemmas.{first_gets, first_none}
 use Rattle.check_types.specs.Named.{type_of, named_type, names_in, each_name, ends}
 use Rattle.check_types.specs.Marks.{type_at, mark_at, is_marked, is_due, visited, marked_count, AreSound, AreDone, TellEnds, Passing}
@@ -18,10 +18,10 @@ Units = List (Placed unit.Unit)
 both : (a b : Bool) → a ≡ true → b ≡ true → a && b ≡ true
 both a b one other = grind arith
 
-left : (a b : Bool) → a && b ≡ true → a ≡ true
+pub left : (a b : Bool) → a && b ≡ true → a ≡ true
 left a b is = grind arith
 
-right : (a b : Bool) → a && b ≡ true → b ≡ true
+pub right : (a b : Bool) → a && b ≡ true → b ≡ true
 right a b is = grind arith
 
 list_more : {X : Type 0} (p q : X → Bool) → ((x : X) → p x ≡ true → q x ≡ true) → (xs : List X) → list_all p xs ≡ true → list_all q xs ≡ true
@@ -39,7 +39,7 @@ none_each p None is = refl
 none_each p (Some ty) is = grind arith
 
 -- one round more
-ends_next : (us : Units) (n : ℕ) (name : List ℕ) → ends us n name ≡ true → ends us (suc n) name ≡ true
+pub ends_next : (us : Units) (n : ℕ) (name : List ℕ) → ends us n name ≡ true → ends us (suc n) name ≡ true
 unfolding ends
 ends_next us zero name is = none_each (ends us zero) (named_type us name) is
 ends_next us (suc n) name is = name_more (ends us n) (ends us (suc n)) (ends_next us n) (named_type us name) is
@@ -62,11 +62,11 @@ ends_none us zero name is = ap is_none is
 ends_none us (suc n) name is = ap (each_name (ends us n)) is
 
 -- a name and the unit at the place that defines it first
-type_here : (us : Units) (name : List ℕ) (at : ℕ) → first_definition Types name us ≡ Some at → named_type us name ≡ type_at us at
+pub type_here : (us : Units) (name : List ℕ) (at : ℕ) → first_definition Types name us ≡ Some at → named_type us name ≡ type_at us at
 unfolding named_type
 type_here us name at is = ap type_of (sym (first_gets (is_definition Types name) at us is))
 
-type_nowhere : (us : Units) (name : List ℕ) → first_definition Types name us ≡ None → named_type us name ≡ None
+pub type_nowhere : (us : Units) (name : List ℕ) → first_definition Types name us ≡ None → named_type us name ≡ None
 unfolding named_type
 type_nowhere us name is = ap type_of (first_none (is_definition Types name) 0 us is)
 
@@ -132,7 +132,7 @@ ends_marked us marks size done (suc n) name is =
     due_marked us marks name size done
     (name_more (ends us n) (is_marked us marks) (ends_marked us marks size done n) (named_type us name) is)
 
-marked_most : (marks : List Bool) → marked_count marks ≤ length marks
+pub marked_most : (marks : List Bool) → marked_count marks ≤ length marks
 unfolding marked_count
 marked_most [] = omega arith
 marked_most (true ∷ marks) = let rest = marked_most marks in omega arith
@@ -151,7 +151,7 @@ marks_tell us marks size sound done name =
     (λ marked. ends_more us (marked_count marks) (length us) name most (marked_ends us marks name sound marked))
     (ends_marked us marks size done (length us) name)
 
-set_size : (marks : List Bool) (at : ℕ) → length (slice_set marks at true) ≡ length marks
+pub set_size : (marks : List Bool) (at : ℕ) → length (slice_set marks at true) ≡ length marks
 set_size marks at = length-set marks at true
 
 set_count : (marks : List Bool) (at : ℕ) → at < length marks → get_or marks at false ≡ false
@@ -166,7 +166,7 @@ set_count (false ∷ marks) (suc at) inside is = set_count marks at (omega arith
 due_free : (mark all : Bool) → not mark && all ≡ true → mark ≡ false
 due_free mark all is = grind arith
 
-due_all : (mark all : Bool) → not mark && all ≡ true → all ≡ true
+pub due_all : (mark all : Bool) → not mark && all ≡ true → all ≡ true
 due_all mark all is = grind arith
 
 -- one more mark on a unit that is due
@@ -232,7 +232,7 @@ passing_next us old marks changed at below pass =
     [ true ↦ λ is. passing_marked us old marks changed at below pass is | false ↦ λ is. passing_left us old marks changed at pass is ] in
     choice (is_due us marks at) refl
 
-blank_none : (n at : ℕ) → get_or (replicate n false) at false ≡ false
+pub blank_none : (n at : ℕ) → get_or (replicate n false) at false ≡ false
 blank_none zero at = refl
 blank_none (suc n) zero = refl
 blank_none (suc n) (suc at) = blank_none n at
@@ -261,3 +261,17 @@ pass_smaller us old new true false is pass =
     let step : 2 * (length us - marked_count new) + 0 < 2 * (length us - marked_count old) + 1 = omega arith in
     step
 pass_smaller us old new false after is pass = grind arith
+
+pub visited_size : (us : Units) (marks : List Bool) (at : ℕ) → length (visited us marks at) ≡ length marks
+unfolding visited
+visited_size us marks at =
+    elim (is_due us marks at) as (λ due. length (cond due (slice_set marks at true) marks) ≡ length marks)
+    [ true ↦ set_size marks at | false ↦ refl ]
+
+pub visited_sound : (us : Units) (marks : List Bool) (at : ℕ) → at < length marks → AreSound us marks → AreSound us (visited us marks at)
+unfolding visited
+visited_sound us marks at inside sound =
+    let choice : (due : Bool) → is_due us marks at ≡ due → AreSound us (cond due (slice_set marks at true) marks) =
+    λ due. elim due as (λ d. is_due us marks at ≡ d → AreSound us (cond d (slice_set marks at true) marks))
+    [ true ↦ λ is. mark_sound us marks at inside is sound | false ↦ λ is. sound ] in
+    choice (is_due us marks at) refl

@@ -1,2 +1,4 @@
 pub mod EndLemmas
 pub mod HeadLemmas
+pub mod MeasureLemmas
+pub mod PartLemmas

@@ -1,6 +1,6 @@
 -- What a type is, with the names followed that stand for the whole of it.
 -- Source: LLVM Language Reference, "Structure Types". Differs: a name may stand for a type of any form.
-use Rattle.std.specs.Prelude.{ℕ, zero, suc, Bool, cond, List, length, Option, Some, None}
+use Rattle.std.specs.Prelude.{ℕ, zero, suc, cond, List, length, Option, Some, None}
 use Rattle.ltt_base.specs.declared.refusal.Placed.{Placed}
 use Rattle.ir_values.specs.declared.types.Ty.{Ty, out-Ty}
 use Rattle.ir_values.specs.declared.types.Ty.TheOpen.{Ty-F}

@@ -1,7 +1,7 @@
 -- Types that are left out. They are kept as their texts.
 -- Source: LLVM Language Reference, "Type System". Differs: the words of refusals are this project's own; the length of an array is below
 -- 2^64.
-use Rattle.std.specs.Prelude.{ℕ, Bool, true, cond, ◌&&◌, ◌||◌, not, nat_le, nat_eq, List, [], ◌∷◌, take, Option, codes}
+use Rattle.std.specs.Prelude.{ℕ, Bool, true, cond, ◌&&◌, ◌||◌, not, nat_le, nat_eq, List, [], take, Option, codes}
 use Rattle.std.specs.List.{starts_with, prefix_len}
 use Rattle.std.specs.Str.{bytes_eq}
 use Rattle.ltt_base.specs.declared.refusal.Code.TheVariants.{E06, E07}

@@ -17,6 +17,7 @@ use Rattle.check_types.specs.declared.places.Allowed.TheVariants.{Every, NonVoid
 use Rattle.check_types.specs.Named.{is_opaque, is_endless}
 use Rattle.check_types.specs.Heads.{head, named_head}
 use Rattle.check_types.specs.Left.{is_metadata, left_flaw}
+use Rattle.check_types.specs.Measures.{past_flaw}
 
 abbrev pub is_void : Ty-F Ty → Bool
 is_void Ty-F.Void = true
@@ -99,7 +100,7 @@ is_metadata_place _ = false
 abbrev pub is_metadata_at : Allowed → Ty → Bool
 is_metadata_at allowed ty = is_metadata_place allowed && is_metadata_type (out-Ty ty)
 
--- the flaws of a type that is written at a place, in an output or a source
+-- the flaws of a type that is written at a place, in an output or a source; where it is past the limits, last
 abbrev pub type_flaw : Bool → List (Placed unit.Unit) → Bool → Allowed → Ty → Option Flaw
 type_flaw output us quiet allowed ty = cond (is_metadata_at allowed ty) None
-    ((written output us quiet ty).flaw then place_flaw us quiet allowed ty)
+    (((written output us quiet ty).flaw then place_flaw us quiet allowed ty) then past_flaw us ty)

@@ -1,20 +1,24 @@
 ghost use Rattle.std.specs.Prelude.{◌≡◌, IfOk};
 ghost use Rattle.check_types.specs.Named as spec;
+ghost use Rattle.check_types.specs.Measures.{measure};
 
-use crate::marks::{ending, is_marked};
+use crate::marks::{is_marked, marks_and_measures};
+use crate::measures::{Measure, measure_of};
 use check_names::Context;
+use ir_values::Ty;
 use ltt_base::{List, Memory};
 use std::alloc::Global;
 use std::marker::Model;
 
-/// The units of a file as a `Context` knows them, and which names of types end: replaced by their types, again and again,
-/// they are gone at last.
+/// The units of a file as a `Context` knows them; which names of types end: replaced by their types, again and again,
+/// they are gone at last; and how much the units' types take.
 ///
 /// A look-up takes time that grows with the logarithm of the number of names.
 #[derive(Debug, Drop)]
 pub struct Types<'a> {
     context: Context<'a>,
     ending: List<bool>,
+    measures: List<Option<Measure>>,
 }
 
 impl<'a> Model for Types<'a> {
@@ -31,10 +35,10 @@ impl<'a> Model for Types<'a> {
 
     ghost view = { λ types. types.context };
 
-    ghost use Rattle.check_types.specs.Marks.{TellEnds};
+    ghost use Rattle.check_types.specs.Marks.{TellEnds, TellMeasures};
 
-    // the marks tell which names end
-    ghost invariant = { λ types. TellEnds types.context.units types.ending };
+    // the marks tell which names end, and the measures how much they take
+    ghost invariant = { λ types. TellEnds types.context.units types.ending × TellMeasures types.context.units types.measures };
 }
 
 impl<'a> Types<'a> {
@@ -42,8 +46,12 @@ impl<'a> Types<'a> {
     pub fn new(alloc: Global, context: Context<'a>) -> Result<Types<'a>, Memory>
         ensures { IfOk result (λ types. types ≡ context.entry) }
     {
-        let ending = ending(alloc, &context)?;
-        Ok(Types { context, ending })
+        let (ending, measures) = marks_and_measures(alloc, &context)?;
+        Ok(Types {
+            context,
+            ending,
+            measures,
+        })
     }
 
     /// The file's units, and what defines its names.
@@ -59,5 +67,12 @@ impl<'a> Types<'a> {
         ensures { result ≡ spec.is_endless self.now.units name.now }
     {
         !is_marked(&self.context, self.ending.items(), name)
+    }
+
+    /// How much a type takes with its names replaced. None: it, or a type in it, is past the limits.
+    pub fn measure(&self, ty: &Ty) -> Option<Measure>
+        ensures { result ≡ measure self.now.units ty.now }
+    {
+        measure_of(&self.context, self.measures.items(), ty)
     }
 }

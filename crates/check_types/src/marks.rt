@@ -3,9 +3,12 @@ ghost use Rattle.std.specs.Prelude.{◌≡◌, ◌<◌, length, false, replicate
 ghost use Rattle.std.specs.List.{list_all};
 ghost use Rattle.std.specs.Option.{option_copied};
 ghost use Rattle.check_types.specs.Named.{names_in, each_name};
+ghost use Rattle.check_types.specs.Measures.{single};
 ghost use Rattle.check_types.specs.Marks as spec;
 
+use crate::measures::{Measure, unit_measure, unknown_measure};
 use crate::named::type_of;
+use crate::order::leaves_first;
 use check_names::{Context, Space};
 use ir_values::Ty;
 use ltt_base::{List, Memory};
@@ -68,41 +71,92 @@ fn is_due(context: &Context<'_>, marks: &[bool], at: usize) -> bool
     !mark_at(marks, Some(at)) && each_is_marked(context, marks, type_of(context.units().get(at)))
 }
 
-#[tactic(auto, unfolding(crate::specs::Marks::visited))]
-fn visit(context: &Context<'_>, marks: &mut List<bool>, at: usize) -> bool
-    requires { at < length marks.old }
+#[tactic(auto, unfolding(crate::specs::Marks::visited, crate::specs::Marks::measures_visited))]
+fn visit(
+    context: &Context<'_>,
+    marks: &mut List<bool>,
+    measures: &mut List<Option<Measure>>,
+    at: usize,
+) -> bool
+    requires mark { at < length marks.old }
+    requires measure { at < length measures.old }
     ensures due { result ≡ spec.is_due context.now.units marks.old at }
     ensures marks { marks.new ≡ spec.visited context.now.units marks.old at }
+    ensures measures { measures.new ≡ spec.measures_visited context.now.units marks.old measures.old at }
 {
     let due = is_due(context, marks.items(), at);
     if due {
+        let measure = unit_measure(context, measures.items(), at);
+        measures.set(at, measure);
         marks.set(at, true);
     }
     due
 }
 
-/// Visits each unit once, and tells whether one was marked.
-fn pass(context: &Context<'_>, marks: &mut List<bool>) -> bool
+fn visit_any(
+    context: &Context<'_>,
+    marks: &mut List<bool>,
+    measures: &mut List<Option<Measure>>,
+    at: usize,
+)
     requires size { length marks.old ≡ length context.now.units }
     requires sound { spec.AreSound context.now.units marks.old }
-    ensures { spec.Passing context.now.units marks.old marks.new result (length context.now.units) }
+    requires measured { spec.AreMeasured context.now.units marks.old measures.old }
+    ensures size { length marks.new ≡ length context.now.units }
+    ensures sound { spec.AreSound context.now.units marks.new }
+    ensures measured { spec.AreMeasured context.now.units marks.new measures.new }
+{
+    if at >= marks.len() {
+        return;
+    }
+    visit(context, marks, measures, at);
+}
+
+/// Visits units in an order.
+fn visit_all(
+    context: &Context<'_>,
+    order: &[usize],
+    marks: &mut List<bool>,
+    measures: &mut List<Option<Measure>>,
+)
+    requires size { length marks.old ≡ length context.now.units }
+    requires sound { spec.AreSound context.now.units marks.old }
+    requires measured { spec.AreMeasured context.now.units marks.old measures.old }
+    ensures size { length marks.new ≡ length context.now.units }
+    ensures sound { spec.AreSound context.now.units marks.new }
+    ensures measured { spec.AreMeasured context.now.units marks.new measures.new }
+{
+    for at in order {
+        visit_any(context, marks, measures, *at);
+    }
+}
+
+/// Visits each unit once, and tells whether one was marked.
+fn pass(context: &Context<'_>, marks: &mut List<bool>, measures: &mut List<Option<Measure>>) -> bool
+    requires size { length marks.old ≡ length context.now.units }
+    requires sound { spec.AreSound context.now.units marks.old }
+    requires measured { spec.AreMeasured context.now.units marks.old measures.old }
+    ensures passing { spec.Passing context.now.units marks.old marks.new result (length context.now.units) }
+    ensures measured { spec.AreMeasured context.now.units marks.new measures.new }
 {
     let mut changed = false;
     for at in 0..context.units().len() {
-        changed |= visit(context, marks, at);
+        changed |= visit(context, marks, measures, at);
     }
     changed
 }
 
 /// Visits the units until none is due.
-fn settle(context: &Context<'_>, marks: &mut List<bool>)
+fn settle(context: &Context<'_>, marks: &mut List<bool>, measures: &mut List<Option<Measure>>)
     requires size { length marks.old ≡ length context.now.units }
     requires sound { spec.AreSound context.now.units marks.old }
-    ensures { spec.TellEnds context.now.units marks.new }
+    requires measured { spec.AreMeasured context.now.units marks.old measures.old }
+    ensures ends { spec.TellEnds context.now.units marks.new }
+    ensures measures { spec.TellMeasures context.now.units measures.new }
 {
     let mut changed = true;
     while changed {
-        changed = pass(context, marks);
+        changed = pass(context, marks, measures);
     }
 }
 
@@ -115,11 +169,26 @@ fn blank(alloc: Global, len: usize) -> Result<List<bool>, Memory>
     }
 }
 
-/// The marks that tell which names end.
-pub fn ending(alloc: Global, context: &Context<'_>) -> Result<List<bool>, Memory>
-    ensures { IfOk result (spec.TellEnds context.now.units) }
+fn unmeasured(alloc: Global, len: usize) -> Result<List<Option<Measure>>, Memory>
+    ensures { IfOk result (λ measures. measures ≡ replicate len (single 0 1)) }
+{
+    match vec![in alloc; unknown_measure(); len] {
+        Ok(measures) => Ok(List::from_vec(measures)),
+        Err(_) => Err(Memory),
+    }
+}
+
+/// The marks that tell which names end, and the measures of the units' types.
+pub fn marks_and_measures(
+    alloc: Global,
+    context: &Context<'_>,
+) -> Result<(List<bool>, List<Option<Measure>>), Memory>
+    ensures { IfOk result (λ tables. spec.TellEnds context.now.units tables.0 × spec.TellMeasures context.now.units tables.1) }
 {
     let mut marks = blank(alloc, context.units().len())?;
-    settle(context, &mut marks);
-    Ok(marks)
+    let mut measures = unmeasured(alloc, context.units().len())?;
+    let order = leaves_first(alloc, context, blank(alloc, context.units().len())?)?;
+    visit_all(context, order.items(), &mut marks, &mut measures);
+    settle(context, &mut marks, &mut measures);
+    Ok((marks, measures))
 }

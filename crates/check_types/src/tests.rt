@@ -1,11 +1,15 @@
+use crate::differences::differ;
 use crate::ends::Types;
 use crate::heads::head;
 use crate::named::{is_opaque, named_type};
+use crate::parts::{part, struct_offset};
 use crate::places::Allowed;
+use crate::replacing::replaced;
+use crate::sizes::{align, is_past, size};
 use crate::written::type_flaw;
 use check_names::{Context, Flaw};
 use ir_values::{Form, Ty, Unit, Width};
-use ltt_base::{Boxed, Code, List, Memory, Place, Placed, Text};
+use ltt_base::{Boxed, Code, List, Memory, Place, Placed, Same, Text};
 use std::alloc::Global;
 use std::test::Fail;
 
@@ -198,5 +202,195 @@ fn some_types_have_no_flaw(rt: HostRuntime) -> Result<(), Fail> {
         let flaw = flaw_of(alloc, &types, quiet, allowed, name)?;
         assert!(rt; flaw.is_none());
     }
+    Ok(())
+}
+
+fn add(alloc: Global, units: &mut List<Placed<Unit>>, name: &[u8], ty: Ty) -> Result<(), Memory> {
+    units.add(unit(alloc, name, Some(ty))?)
+}
+
+fn add_array(
+    alloc: Global,
+    units: &mut List<Placed<Unit>>,
+    name: &[u8],
+    many: u64,
+    part: Ty,
+) -> Result<(), Memory> {
+    let ty = Ty::Array(many, Boxed::new(alloc, part)?);
+    add(alloc, units, name, ty)
+}
+
+fn add_names(
+    alloc: Global,
+    units: &mut List<Placed<Unit>>,
+    name: &[u8],
+    parts: [&[u8]; 2],
+) -> Result<(), Memory> {
+    let ty = pair(alloc, named(alloc, parts[0])?, named(alloc, parts[1])?)?;
+    add(alloc, units, name, ty)
+}
+
+const DOUBLES: [&[u8]; 13] = [
+    b"byte", b"d1", b"d2", b"d3", b"d4", b"d5", b"d6", b"d7", b"d8", b"d9", b"d10", b"d11", b"d12",
+];
+
+fn structs(alloc: Global, units: &mut List<Placed<Unit>>) -> Result<(), Memory> {
+    for at in (1..DOUBLES.len()).rev() {
+        add_names(
+            alloc,
+            units,
+            DOUBLES[at],
+            [DOUBLES[at - 1], DOUBLES[at - 1]],
+        )?;
+    }
+    add_names(alloc, units, b"inner", [b"byte", b"long"])?;
+    add_names(alloc, units, b"padded", [b"inner", b"short"])?;
+    add_names(alloc, units, b"wider", [b"inner", b"long"])?;
+    add_names(alloc, units, b"hidden", [b"unknown", b"short"])
+}
+
+fn arrays(alloc: Global, units: &mut List<Placed<Unit>>) -> Result<(), Memory> {
+    add_array(alloc, units, b"two", 2, Ty::Int(Width::W16))?;
+    add_array(alloc, units, b"three", 3, Ty::Int(Width::W16))?;
+    add_array(alloc, units, b"most", 16777216, Ty::Int(Width::W8))?;
+    add_array(alloc, units, b"wide", 16777217, Ty::Int(Width::W1))?;
+    add_array(alloc, units, b"huge", u64::MAX, Ty::Int(Width::W16))?;
+    add_array(alloc, units, b"none", 0, named(alloc, b"wide")?)?;
+    add_array(alloc, units, b"nested", 3, named(alloc, b"two")?)?;
+    add_array(alloc, units, b"other", 3, named(alloc, b"three")?)
+}
+
+fn measured(alloc: Global) -> Result<List<Placed<Unit>>, Memory> {
+    let mut units = List::new(alloc);
+    add(alloc, &mut units, b"byte", Ty::Int(Width::W8))?;
+    add(alloc, &mut units, b"short", Ty::Int(Width::W16))?;
+    structs(alloc, &mut units)?;
+    arrays(alloc, &mut units)?;
+    add(alloc, &mut units, b"long", Ty::Int(Width::W64))?;
+    Ok(units)
+}
+
+fn is_measured(types: &Types<'_>, name: &[u8], past: bool, bytes: u64, place: u64) -> bool {
+    match named_type(types.context(), name) {
+        Some(ty) => {
+            is_past(types, ty) == past && size(types, ty) == bytes && align(types, ty) == place
+        }
+        None => false,
+    }
+}
+
+#[test]
+fn types_have_a_size_and_an_alignment_within_limits(rt: HostRuntime) -> Result<(), Fail> {
+    let alloc = rt.alloc();
+    let units = measured(alloc)?;
+    let types = Types::new(alloc, Context::new(alloc, false, units.items())?)?;
+    let table: [(&[u8], bool, u64, u64); 9] = [
+        (b"d1", false, 2, 1),
+        (b"d11", false, 2048, 1),
+        (b"d12", true, 0, 1),
+        (b"nested", false, 12, 2),
+        (b"most", false, 16777216, 1),
+        (b"none", true, 0, 1),
+        (b"huge", true, 0, 1),
+        (b"padded", false, 24, 8),
+        (b"hidden", false, 2, 2),
+    ];
+    for (name, past, bytes, place) in table {
+        assert!(rt; is_measured(&types, name, past, bytes, place));
+    }
+    Ok(())
+}
+
+fn offset_of(types: &Types<'_>, name: &[u8], at: u64) -> u128 {
+    match named_type(types.context(), name) {
+        Some(Ty::Struct(parts)) => struct_offset(types, parts.items(), at),
+        _ => 0,
+    }
+}
+
+fn bytes_of_part<'a>(types: &Types<'a>, name: &[u8], at: u64) -> u64 {
+    match named_type(types.context(), name) {
+        Some(ty) => match part(types, ty, at) {
+            Some(part) => size(types, part),
+            None => 0,
+        },
+        None => 0,
+    }
+}
+
+fn is_part(types: &Types<'_>, name: &[u8], at: u64, offset: u128, bytes: u64) -> bool {
+    offset_of(types, name, at) == offset && bytes_of_part(types, name, at) == bytes
+}
+
+#[test]
+fn a_part_stands_at_its_offset(rt: HostRuntime) -> Result<(), Fail> {
+    let alloc = rt.alloc();
+    let units = measured(alloc)?;
+    let types = Types::new(alloc, Context::new(alloc, false, units.items())?)?;
+    let table: [(&[u8], u64, u128, u64); 4] = [
+        (b"padded", 0, 0, 16),
+        (b"padded", 1, 16, 2),
+        (b"padded", 2, 18, 0),
+        (b"nested", 9, 0, 4),
+    ];
+    for (name, at, offset, bytes) in table {
+        assert!(rt; is_part(&types, name, at, offset, bytes));
+    }
+    Ok(())
+}
+
+fn names_differ(types: &Types<'_>, one: &[u8], other: &[u8]) -> bool {
+    match (
+        named_type(types.context(), one),
+        named_type(types.context(), other),
+    ) {
+        (Some(one), Some(other)) => differ(types, one, other),
+        _ => false,
+    }
+}
+
+#[test]
+fn types_differ_in_what_is_known(rt: HostRuntime) -> Result<(), Fail> {
+    let alloc = rt.alloc();
+    let units = measured(alloc)?;
+    let types = Types::new(alloc, Context::new(alloc, false, units.items())?)?;
+    let table: [(&[u8], &[u8], bool); 7] = [
+        (b"padded", b"padded", false),
+        (b"padded", b"hidden", false),
+        (b"padded", b"wider", true),
+        (b"hidden", b"wider", true),
+        (b"nested", b"other", true),
+        (b"padded", b"nested", true),
+        (b"padded", b"d12", false),
+    ];
+    for (one, other, want) in table {
+        assert_eq!(rt; names_differ(&types, one, other), want);
+    }
+    Ok(())
+}
+
+fn is_two(ty: &Ty) -> bool {
+    match ty {
+        Ty::Array(2, _) => true,
+        _ => false,
+    }
+}
+
+fn is_nested(ty: &Ty) -> bool {
+    match ty {
+        Ty::Array(3, part) => is_two(part.get()),
+        _ => false,
+    }
+}
+
+#[test]
+fn names_are_replaced_by_their_types(rt: HostRuntime) -> Result<(), Fail> {
+    let alloc = rt.alloc();
+    let nested = named(alloc, b"nested")?;
+    let past = named(alloc, b"d12")?;
+    let units = measured(alloc)?;
+    let types = Types::new(alloc, Context::new(alloc, false, units.items())?)?;
+    assert!(rt; is_nested(&replaced(alloc, &types, &nested)?));
+    assert!(rt; replaced(alloc, &types, &past)?.is(&past));
     Ok(())
 }

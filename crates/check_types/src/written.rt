@@ -10,6 +10,7 @@ use crate::heads::named_head;
 use crate::left::left_flaw;
 use crate::named::is_opaque;
 use crate::places::{Allowed, is_void, place_flaw};
+use crate::sizes::past_flaw;
 use check_names::{Flaw, Space, counts, use_flaw, when};
 use ir_values::Ty;
 use ltt_base::{Code, Memory};
@@ -134,5 +135,7 @@ pub fn type_flaw<'a>(
         return Ok(None);
     }
     let flaw = written_flaw(alloc, types, quiet, ty)?;
-    Ok(counts(flaw, place_flaw(types, quiet, allowed, ty)))
+    let placed = place_flaw(types, quiet, allowed, ty);
+    let past = past_flaw(alloc, types, ty)?;
+    Ok(counts(counts(flaw, placed), past))
 }
