@@ -1,0 +1,3 @@
+pub mod KnownLemmas
+pub mod LayoutLemmas
+pub mod ParamLemmas
