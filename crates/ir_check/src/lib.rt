@@ -1,0 +1,7 @@
+//! The check of a file's units: whether no unit has a flaw, or else the first that has one, with the one that counts.
+#![tactic(auto)]
+
+mod check;
+mod units;
+
+pub use check::check_units;
