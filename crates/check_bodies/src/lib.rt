@@ -12,8 +12,6 @@ mod sorts;
 mod sources;
 mod standing;
 mod structure;
-#[cfg(test)]
-mod tests;
 
 pub use blocks::{BlockMark, Edge, block_at, block_label, edges_of};
 pub use body::Body;

@@ -6,8 +6,6 @@ mod flaws;
 mod names;
 mod reserved;
 mod spaces;
-#[cfg(test)]
-mod tests;
 mod words;
 
 pub use context::Context;

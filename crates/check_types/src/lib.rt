@@ -13,8 +13,6 @@ mod parts;
 mod places;
 mod replacing;
 mod sizes;
-#[cfg(test)]
-mod tests;
 mod written;
 
 pub use differences::differ;

@@ -11,6 +11,3 @@ mod variables;
 
 pub use heads::{read_declare, read_define};
 pub use variables::read_variable;
-
-#[cfg(test)]
-mod tests;

@@ -11,6 +11,3 @@ mod unit;
 
 pub use laws::{answers_agree, units_agree};
 pub use reading::read_units;
-
-#[cfg(test)]
-mod tests;

@@ -16,6 +16,3 @@ pub use reading::{
     read_attributes, read_close, read_comdat, read_entry, read_header, read_label, read_left_unit,
     read_metadata, read_table, read_type_body,
 };
-
-#[cfg(test)]
-mod tests;

@@ -19,8 +19,3 @@ pub use laws::opened_is_told;
 pub use numbers::{int_of, length_of};
 pub use reading::{read_constant, read_own_items, read_type, read_value_type};
 pub use types::ty;
-
-#[cfg(test)]
-mod shown;
-#[cfg(test)]
-mod tests;

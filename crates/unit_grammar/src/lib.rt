@@ -23,6 +23,3 @@ pub use tokens::{
     global, is_kind, is_number, is_one_of, is_text, is_word_of, local, mark, meta_kind, node,
     numbered, of_kind, pass_kind, pass_word, word, word_of,
 };
-
-#[cfg(test)]
-mod tests;

@@ -13,6 +13,3 @@ pub use attributes::{attribute, attribute_run, parameter_run};
 pub use linkage::{maybe_linkage, maybe_other_linkage};
 pub use places::{comdat, next_placed, placed, section, variable_places};
 pub use runs::{call_run, dropped_run, dropped_word, function_run, instruction_run, item_run};
-
-#[cfg(test)]
-mod tests;

@@ -1,15 +1,15 @@
 ghost use Rattle.std.specs.Prelude.{◌≤◌, length};
 
-use crate::{
-    attachments, attribute_run, call_run, comdat, dropped_attachments, dropped_run, dropped_word,
-    function_run, head_attachments, instruction_run, item_run, maybe_linkage, maybe_other_linkage,
-    next_placed, parameter_run, placed, section, variable_places,
-};
 use ir_lex::{Lexer, Token};
 use ltt_base::{List, Memory, Text};
 use std::alloc::Global;
 use std::test::Fail;
 use unit_grammar::{Input, Stop};
+use word_grammar::{
+    attachments, attribute_run, call_run, comdat, dropped_attachments, dropped_run, dropped_word,
+    function_run, head_attachments, instruction_run, item_run, maybe_linkage, maybe_other_linkage,
+    next_placed, parameter_run, placed, section, variable_places,
+};
 
 fn tokens_of(alloc: Global, text: &[u8]) -> Result<List<Token>, Memory>
     requires { length text.now ≤ 67_108_864 }

@@ -1,12 +1,12 @@
 ghost use Rattle.std.specs.Prelude.{◌≤◌, length};
 
 use crate::shown::{show_bare, show_item, show_ty};
-use crate::{Bare, at_type, read_constant, read_own_items, read_type};
 use ir_lex::{Lexer, Token};
 use ir_values::{Const, MetaItem, Ty, Width};
 use ltt_base::{List, Memory, Text};
 use std::alloc::Global;
 use std::test::Fail;
+use type_grammar::{Bare, at_type, read_constant, read_own_items, read_type};
 use unit_grammar::{Input, Stop};
 
 fn tokens_of(alloc: Global, text: &[u8]) -> Result<List<Token>, Memory>

@@ -1,5 +1,5 @@
-use crate::reading::read_units;
 use ir_lex::Lexer;
+use ir_text::read_units;
 use ir_values::{Form, Unit};
 use ltt_base::{Code, Fault, List, Placed, Refusal};
 use std::alloc::{AllocError, Global};

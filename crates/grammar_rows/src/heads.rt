@@ -1,6 +1,6 @@
 ghost use Rattle.std.specs.Prelude.{◌≤◌, length};
 
-use crate::{read_declare, read_define, read_variable};
+use head_grammar::{read_declare, read_define, read_variable};
 use ir_lex::{Lexer, Token};
 use ir_values::{Attach, Const, Form, Head, Param, Ty, Width};
 use ltt_base::{List, Memory, Text};

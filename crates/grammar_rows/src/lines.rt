@@ -1,12 +1,12 @@
 ghost use Rattle.std.specs.Prelude.{◌≤◌, length};
 
-use crate::{
-    read_attributes, read_close, read_comdat, read_entry, read_header, read_label, read_left_unit,
-    read_metadata, read_table, read_type_body, with_type_name,
-};
 use ir_lex::{Lexer, Token};
 use ir_values::{Const, Form, HeaderKind, MetaItem, Ty};
 use ltt_base::{List, Memory, Text};
+use module_grammar::{
+    read_attributes, read_close, read_comdat, read_entry, read_header, read_label, read_left_unit,
+    read_metadata, read_table, read_type_body, with_type_name,
+};
 use std::alloc::Global;
 use std::test::Fail;
 use unit_grammar::{Input, Stop};

@@ -1,10 +1,10 @@
-use crate::{
-    Input, Stop, attachments, either_name, enclosed, global, is_one_of, local, of_kind, one, two,
-    unquoted, word, word_of,
-};
 use ir_lex::{Kind, Token};
 use ltt_base::Place;
 use std::test::Fail;
+use unit_grammar::{
+    Input, Stop, attachments, either_name, enclosed, global, is_one_of, local, of_kind, one, two,
+    unquoted, word, word_of,
+};
 
 fn token(kind: Kind, start: usize, end: usize) -> Token {
     let place = Place {

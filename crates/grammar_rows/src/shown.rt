@@ -1,9 +1,9 @@
 //! Values of tests as short texts.
 
-use crate::bare::Bare;
 use ir_values::{Const, MetaItem, Operand, Ty, Width};
 use ltt_base::{Memory, Text};
 use std::alloc::Global;
+use type_grammar::Bare;
 
 fn push(out: &mut Text, text: &str) -> Result<(), Memory> {
     out.extend(text.as_bytes())
