@@ -1,3 +1,5 @@
+pub mod FoundLemmas
+pub mod IdentifierLemmas
 pub mod KnownLemmas
 pub mod LayoutLemmas
 pub mod ParamLemmas

@@ -18,6 +18,7 @@ use Rattle.check_types.specs.declared.places.Allowed.TheVariants.{Every}
 use Rattle.check_types.specs.Written.{type_flaw}
 use Rattle.check_items.specs.declared.counts.Counts.{Counts}
 use Rattle.check_items.specs.Counts.{counts_before, variables_flaw, functions_flaw, carriers_flaw}
+use Rattle.check_items.specs.Identifiers.{identifiers_flaw}
 use Rattle.check_items.specs.Layouts.{layout_flaw}
 use Rattle.check_items.specs.Variables.{variable_flaw}
 use Rattle.check_items.specs.Functions.{declare_flaw, define_flaw}
@@ -39,6 +40,10 @@ type_unit_flaw output us at name ty = definition_flaw output us at Types name th
 abbrev pub node_flaw : Bool → List (Placed unit.Unit) → ℕ → List ℕ → Option Flaw
 node_flaw output us at name = cond (is_decimal name) (definition_flaw output us at Nodes name) None
 
+-- a definition whose entries are past a limit. Where one entry is past both, the limit of identifiers is told
+abbrev pub limits_flaw : List (Placed unit.Unit) → ℕ → Counts → Form → Option Flaw
+limits_flaw us at counts form = identifiers_flaw us at then carriers_flaw counts form
+
 -- the flaws of a unit at a place, where the units before it have so many variables, functions and entries
 abbrev pub form_flaw : Bool → List (Placed unit.Unit) → ℕ → Counts → Form → Option Flaw
 form_flaw output us at counts (HeaderForm kind value) = header_flaw kind value
@@ -46,12 +51,13 @@ form_flaw output us at counts (TypeForm name ty) = type_unit_flaw output us at n
 form_flaw output us at counts (VariableForm name linkage constant ty init align attached) =
     variables_flaw counts
     then (variable_flaw output us at name linkage ty init align attached
-    then carriers_flaw counts (VariableForm name linkage constant ty init align attached))
+    then limits_flaw us at counts (VariableForm name linkage constant ty init align attached))
 form_flaw output us at counts (DeclareForm head) =
     functions_flaw counts (DeclareForm head) then declare_flaw output us at head (DeclareForm head)
 form_flaw output us at counts (DefineForm head) =
     functions_flaw counts (DefineForm head)
-    then (define_flaw output us at head (DefineForm head) then carriers_flaw counts (DefineForm head))
+    then (define_flaw output us at head (DefineForm head)
+    then limits_flaw us at counts (DefineForm head))
 form_flaw output us at counts (MetadataForm name distinct items) = node_flaw output us at name
 form_flaw output us at counts (TableForm name funcs) = table_flaw output us at name funcs
 form_flaw output us at counts (LeftForm word) = worded_when true E07 word

@@ -37,7 +37,8 @@ fn is_function(form: &Form) -> bool
     }
 }
 
-fn kept_attached(form: &Form) -> &[Attach]
+/// The attachments that count: those of a definition.
+pub(crate) fn kept_attached(form: &Form) -> &[Attach]
     ensures { result.now ≡ spec.kept_attached form.now }
 {
     match form {

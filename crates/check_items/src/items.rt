@@ -2,10 +2,12 @@
 ghost use Rattle.std.specs.Prelude.{◌≡◌, ◌<◌, length, slice_get, Some, IfOk};
 ghost use Rattle.std.specs.Option.{option_copied};
 ghost use Rattle.check_items.specs.Counts as counting;
+ghost use Rattle.check_items.specs.Identifiers.{IsTooManyFrom};
 ghost use Rattle.check_items.specs.Items as spec;
 
 use crate::counts::{Counts, carriers_flaw, functions_flaw, variables_flaw};
 use crate::functions::{declare_flaw, define_flaw};
+use crate::identifiers::identifiers_flaw;
 use crate::layouts::layout_flaw;
 use crate::tables::table_flaw;
 use crate::variables::variable_flaw;
@@ -68,14 +70,32 @@ fn node_flaw(
     }
 }
 
+fn limits_flaw(
+    alloc: Global,
+    types: &Types<'_>,
+    so_far: Counts,
+    too_many: Option<usize>,
+    at: usize,
+    form: &Form,
+) -> Result<Option<Flaw>, Memory>
+    requires inside { at < length types.now.units }
+    requires too_many { IsTooManyFrom types.now.units too_many }
+    ensures { IfOk result (λ flaw. flaw ≡ spec.limits_flaw types.now.units at so_far form.now) }
+{
+    let identifiers = identifiers_flaw(alloc, types, too_many, at)?;
+    Ok(counts(identifiers, carriers_flaw(alloc, so_far, form)?))
+}
+
 fn form_flaw<'a>(
     alloc: Global,
     types: &Types<'a>,
     so_far: Counts,
+    too_many: Option<usize>,
     at: usize,
     form: &'a Form,
 ) -> Result<Option<Flaw>, Memory>
-    requires { at < length types.now.units }
+    requires inside { at < length types.now.units }
+    requires too_many { IsTooManyFrom types.now.units too_many }
     ensures { IfOk result (λ flaw. flaw ≡ spec.form_flaw types.now.output types.now.units at so_far form.now) }
 {
     match form {
@@ -104,7 +124,8 @@ fn form_flaw<'a>(
                 *align,
                 attached.items(),
             )?;
-            Ok(counts(past, counts(own, carriers_flaw(alloc, so_far, form)?)))
+            let limits = limits_flaw(alloc, types, so_far, too_many, at, form)?;
+            Ok(counts(past, counts(own, limits)))
         }
         Form::DeclareForm { head } => {
             let past = functions_flaw(alloc, so_far, form)?;
@@ -113,7 +134,8 @@ fn form_flaw<'a>(
         Form::DefineForm { head } => {
             let past = functions_flaw(alloc, so_far, form)?;
             let own = define_flaw(alloc, types, at, head, form)?;
-            Ok(counts(past, counts(own, carriers_flaw(alloc, so_far, form)?)))
+            let limits = limits_flaw(alloc, types, so_far, too_many, at, form)?;
+            Ok(counts(past, counts(own, limits)))
         }
         Form::MetadataForm { name, .. } => node_flaw(alloc, types, at, name.bytes()),
         Form::TableForm { name, funcs } => {
@@ -125,7 +147,7 @@ fn form_flaw<'a>(
 }
 
 /// The flaws of a unit that stands outside all bodies, apart from that of its place. `so_far` counts what the units before it
-/// have.
+/// have; `too_many` is what `too_many_from` gives.
 ///
 /// Source: LLVM Language Reference, "High Level Structure".
 #[tactic(auto, unfolding(crate::specs::Items::item_flaw))]
@@ -133,12 +155,14 @@ pub fn item_flaw<'a>(
     alloc: Global,
     types: &Types<'a>,
     so_far: Counts,
+    too_many: Option<usize>,
     at: usize,
     form: &'a Form,
 ) -> Result<Option<Flaw>, Memory>
     requires inside { at < length types.now.units }
+    requires too_many { IsTooManyFrom types.now.units too_many }
     requires so_far { so_far ≡ counting.counts_before types.now.units at }
     ensures { IfOk result (λ flaw. flaw ≡ spec.item_flaw types.now.output types.now.units at form.now) }
 {
-    form_flaw(alloc, types, so_far, at, form)
+    form_flaw(alloc, types, so_far, too_many, at, form)
 }

@@ -5,6 +5,7 @@ mod attached;
 mod counts;
 mod entries;
 mod functions;
+mod identifiers;
 mod items;
 mod known;
 mod layouts;
@@ -12,14 +13,13 @@ mod linkages;
 mod nodes;
 mod signatures;
 mod tables;
-#[cfg(test)]
-mod tests;
 mod variables;
 
 pub use attached::{attached_flaw, declared_flaw, is_type, is_visibility};
 pub use counts::{Counts, carriers_flaw, counted, first_counts, functions_flaw, variables_flaw};
 pub use entries::{entries_of, node_number, visibility_of};
 pub use functions::{declare_flaw, define_flaw};
+pub use identifiers::{identifiers_flaw, too_many_from};
 pub use items::item_flaw;
 pub use known::is_known;
 pub use layouts::layout_flaw;

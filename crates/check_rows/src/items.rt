@@ -1,5 +1,5 @@
 // What no clause says: that calls succeed where memory is there, on units made by hand.
-use crate::{entries_of, first_counts, item_flaw, visibility_of};
+use check_items::{entries_of, first_counts, item_flaw, too_many_from, visibility_of};
 use check_names::{Context, Flaw};
 use check_types::Types;
 use ir_values::{
@@ -215,7 +215,8 @@ fn first_flaw(alloc: Global, output: bool, units: &[Placed<Unit>]) -> Result<Opt
         return Ok(None);
     }
     let so_far = first_counts(units);
-    item_flaw(alloc, &types, so_far, 0, &units[0].value.form)
+    let too_many = too_many_from(alloc, &types)?;
+    item_flaw(alloc, &types, so_far, too_many, 0, &units[0].value.form)
 }
 
 fn is_flaw(flaw: &Option<Flaw>, code: Code, word: &[u8]) -> bool {
