@@ -101,7 +101,10 @@ fn is_shift(value: &Operand) -> bool
     }
 }
 
-fn argument_kept<'a>(
+/// An argument's value as a module keeps it. `None`: it is metadata.
+///
+/// Source: LLVM Language Reference, "'call' Instruction".
+pub fn argument_kept<'a>(
     alloc: Global,
     types: &Types<'a>,
     arg: &'a Arg,

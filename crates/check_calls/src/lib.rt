@@ -8,4 +8,4 @@ mod fitting;
 
 pub use arguments::{Role, node_flaw, role_of};
 pub use callees::{called, called_intrinsic, function_of, is_left_call};
-pub use calls::call_flaw;
+pub use calls::{argument_kept, call_flaw};

@@ -97,7 +97,10 @@ fn number_of(width: Width, constant: &Const) -> Option<u64>
     }
 }
 
-fn case_number<'a>(
+/// The number that a case of a switch on integers of a width has as its value. `None`: its value is no number of that width.
+///
+/// Source: LLVM Language Reference, "'switch' Instruction".
+pub fn case_number<'a>(
     alloc: Global,
     types: &Types<'a>,
     width: Width,

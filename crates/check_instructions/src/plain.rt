@@ -101,8 +101,8 @@ fn layer_width(ty: &Ty) -> Option<Width>
     }
 }
 
-/// The width of a known type of integers.
-pub(crate) fn width_of(ty: Option<&Ty>) -> Option<Width>
+/// The width of a known type of integers. `None`: it is no such type, or isn't known.
+pub fn width_of(ty: Option<&Ty>) -> Option<Width>
     ensures { result ≡ spec.width_of (option_copied ty.entry) }
 {
     match ty {
