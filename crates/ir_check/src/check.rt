@@ -5,7 +5,7 @@ ghost use Rattle.ir_check.specs.Walk.{begins, IsHeadOf, IsHeadAt, IsFound, IsAny
 
 use crate::units::{flaw_at, is_head};
 use check_bodies::{Body, Standing, after};
-use check_items::{counted, first_counts};
+use check_items::{counted, first_counts, too_many_from};
 use check_names::{Context, Flaw};
 use check_operands::Made;
 use check_types::Types;
@@ -77,13 +77,16 @@ fn first_flaw<'a>(
     if units.is_empty() {
         return Ok(None);
     }
+    let too_many = too_many_from(alloc, types)?;
     let mut body = Body::new(alloc, units, 0)?;
     let mut standing = Standing::Outside;
     let mut so_far = first_counts(units);
     for at in 0..units.len() {
         let form = &units[at].value.form;
         body = body_at(alloc, units, at, form, standing, body)?;
-        let flaw = flaw_at(alloc, types, made, &body, so_far, at, standing, form)?;
+        let flaw = flaw_at(
+            alloc, types, made, &body, so_far, too_many, at, standing, form,
+        )?;
         if let Some(flaw) = flaw {
             return Ok(Some((at, flaw)));
         }
@@ -93,7 +96,18 @@ fn first_flaw<'a>(
     Ok(None)
 }
 
-fn check_with<'a>(
+/// Whether no unit of a file has a flaw, where its types are known.
+pub(crate) fn check_with<'a>(alloc: Global, types: &Types<'a>, made: &'a Made) -> Result<(), Fault>
+    ensures { Answers IsAny types.now.output types.now.units result }
+{
+    let units = types.context().units();
+    match first_flaw(alloc, types, made)? {
+        Some((at, flaw)) => Err(Fault::Refused(refusal_of(alloc, &units[at], flaw)?)),
+        None => Ok(()),
+    }
+}
+
+fn check_made<'a>(
     alloc: Global,
     output: bool,
     units: &'a [Placed<Unit>],
@@ -103,10 +117,7 @@ fn check_with<'a>(
 {
     let context = Context::new(alloc, output, units)?;
     let types = Types::new(alloc, context)?;
-    match first_flaw(alloc, &types, made)? {
-        Some((at, flaw)) => Err(Fault::Refused(refusal_of(alloc, &units[at], flaw)?)),
-        None => Ok(()),
-    }
+    check_with(alloc, &types, made)
 }
 
 /// Whether no unit of a file has a flaw.
@@ -117,5 +128,5 @@ pub fn check_units(alloc: Global, output: bool, units: &[Placed<Unit>]) -> Resul
     ensures { Answers IsAny output units.now result }
 {
     let made = Made::new(alloc)?;
-    check_with(alloc, output, units, &made)
+    check_made(alloc, output, units, &made)
 }

@@ -2,6 +2,8 @@
 #![tactic(auto)]
 
 mod check;
+mod modules;
 mod units;
 
 pub use check::check_units;
+pub use modules::{check_output, check_source};

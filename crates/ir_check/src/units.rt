@@ -1,6 +1,7 @@
 // The flaws of a unit.
 ghost use Rattle.std.specs.Prelude.{◌≡◌, ◌<◌, true, length, IfOk};
 ghost use Rattle.check_items.specs.Counts.{counts_before};
+ghost use Rattle.check_items.specs.Identifiers.{IsTooManyFrom};
 ghost use Rattle.ir_check.specs.Units as spec;
 ghost use Rattle.ir_check.specs.Walk.{IsHeadAt, is_head};
 
@@ -39,15 +40,17 @@ fn outer_flaw<'a>(
     alloc: Global,
     types: &Types<'a>,
     so_far: Counts,
+    too_many: Option<usize>,
     at: usize,
     form: &'a Form,
 ) -> Result<Option<Flaw>, Memory>
     requires within { at < length types.now.units }
     requires so_far { so_far ≡ counts_before types.now.units at }
+    requires too_many { IsTooManyFrom types.now.units too_many }
     ensures { IfOk result (λ flaw. flaw ≡ spec.outer_flaw types.now.output types.now.units at form.now) }
 {
     let unclosed = unclosed(types, at, form);
-    let item = item_flaw(alloc, types, so_far, at, form)?;
+    let item = item_flaw(alloc, types, so_far, too_many, at, form)?;
     Ok(counts(outside_flaw(form), counts(unclosed, item)))
 }
 
@@ -89,18 +92,20 @@ pub fn flaw_at<'a>(
     made: &'a Made,
     body: &Body<'a>,
     so_far: Counts,
+    too_many: Option<usize>,
     at: usize,
     standing: Standing,
     form: &'a Form,
 ) -> Result<Option<Flaw>, Memory>
     requires within { at < length types.now.units }
     requires so_far { so_far ≡ counts_before types.now.units at }
+    requires too_many { IsTooManyFrom types.now.units too_many }
     requires units { body.now.units ≡ types.now.units }
     requires head { IsHeadAt at standing form.now body.now.head }
     ensures { IfOk result (λ flaw. flaw ≡ spec.flaw_at types.now.output types.now.units at standing form.now) }
 {
     match standing {
-        Standing::Outside => outer_flaw(alloc, types, so_far, at, form),
+        Standing::Outside => outer_flaw(alloc, types, so_far, too_many, at, form),
         Standing::Inside(spot) => inner_flaw(alloc, types, made, body, at, spot, form),
     }
 }
