@@ -49,9 +49,9 @@ module _ {W P : Type 0} (m : Model W P) (w : W) (f : Frame P) where
     part ← part_in (out-Ty ty) n
     offset_behind ((sum + offset) % 2 ^ 64) part rest
 
-  -- the first index counts whole places of the type
+  -- the first index counts whole places of the type; without indices nothing is added
   abbrev pub offset_of : Ty → List (Width × Operand) → Option ℕ
-  offset_of ty [] = None
+  offset_of ty [] = Some 0
   offset_of ty (index ∷ rest) = do
     n ← index_of index.0 index.1
     offset ← scaled ty n

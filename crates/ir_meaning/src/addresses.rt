@@ -103,7 +103,7 @@ fn offset_of<M: Memory>(
     ensures { result ≡ offset_of M.model memory.now frame.now ty.now indices.now }
 {
     let [index, rest @ ..] = indices else {
-        return None;
+        return Some(0);
     };
     let n = index_of(memory, frame, index.0, &index.1)?;
     let offset = scaled(ty, n)?;

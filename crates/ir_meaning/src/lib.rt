@@ -4,8 +4,6 @@
 mod addresses;
 mod branches;
 mod calls;
-#[cfg(test)]
-mod carrying;
 mod externals;
 mod frames;
 mod instructions;
@@ -18,8 +16,6 @@ mod registers;
 mod starts;
 mod states;
 mod steps;
-#[cfg(test)]
-mod tests;
 
 pub use laws::{
     calls_come_back, plain_instructions_stay_in_their_frame, registers_hold_what_was_put, runs_add,
