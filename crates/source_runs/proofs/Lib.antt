@@ -1,0 +1,4 @@
+pub mod WordLemmas
+pub mod NumberLaws
+pub mod AnswerLaws
+pub mod PrintLemmas
