@@ -1,0 +1,13 @@
+pub mod PartLemmas
+pub mod TypeLemmas
+pub mod FormLemmas
+pub mod ReadLemmas
+pub mod FlawLemmas
+pub mod UnitLemmas
+pub mod RoundLemmas
+pub mod HeadLemmas
+pub mod LimitLemmas
+pub mod LayoutLemmas
+pub mod CleanLemmas
+pub mod CountLemmas
+pub mod RunLaws
