@@ -4,10 +4,8 @@ use Rattle.ltt_base.specs.Outside.{Rose, Took, TookPart}
 use Rattle.ltt_base.specs.Lines.{write_fault_line, memory_line, refusal_line, refusal_status}
 use Rattle.ltt_base.specs.Status.{Seen, StatusMeans}
 use Rattle.ltt_base.specs.declared.refusal.Refusal.{Refusal}
-use Rattle.ir_values.specs.declared.modules.Module.{Module}
-use Rattle.ltt_driver.specs.Files.{IsLoweredTo, IsRefused}
-use Rattle.ir_print.specs.ModuleText.{module_text}
-use Rattle.ltt_driver.specs.Asked.{Asked, AsksFor, HasForm}
+use Rattle.ltt_driver.specs.Files.{IsMade, IsRefusedBy}
+use Rattle.ltt_driver.specs.Asked.{Command, Asked, AsksFor, HasForm}
 use Rattle.ltt_driver.specs.Outcome.{IsDue}
 
 -- a sink at one time: the bytes that it took, where they are told, and its count of faults
@@ -36,11 +34,11 @@ IsPut text out out_after err err_after result =
     × TookLine write_fault_line err err_after)
     ⊎ (TookPart out.taken out_after.taken text × IsWant err err_after result))
 
--- the text is that of a module, which was put, or it is refused, which was told, or memory was wanted before that
-abbrev pub IsLoweredOrTold : List (List ℕ) → List ℕ → Sunk → Sunk → Sunk → Sunk → ℕ → Type 0
-IsLoweredOrTold names text out out_after err err_after result =
-    ((m : Module) × IsLoweredTo text m × IsPut (module_text m) out out_after err err_after result)
-    ⊎ (((refusal : Refusal) × IsRefused text refusal × (out_after.taken ≡ out.taken)
+-- what the command makes of a text was put, or the text is refused, which was told, or memory was wanted before that
+abbrev pub IsMadeOrTold : Command → List (List ℕ) → List ℕ → Sunk → Sunk → Sunk → Sunk → ℕ → Type 0
+IsMadeOrTold command names text out out_after err err_after result =
+    ((made : List ℕ) × IsMade command text made × IsPut made out out_after err err_after result)
+    ⊎ (((refusal : Refusal) × IsRefusedBy command text refusal × (out_after.taken ≡ out.taken)
     × IsTold (refusal_status refusal.code) (refusal_line names refusal) err err_after result)
     ⊎ ((out_after.taken ≡ out.taken) × IsWant err err_after result))
 

@@ -3,8 +3,8 @@ ghost use Rattle.ltt_base.specs.Status.{StatusMeans};
 ghost use Rattle.ltt_driver.specs.Asked.{NoForm, TooManyFiles, asked, AsksFor, HasForm};
 ghost use Rattle.ltt_driver.specs.Outcome.{IsDue};
 
+use crate::command::{Command, Kind, on_files, on_one, on_run};
 use crate::lines::usage_line;
-use crate::lower::lower;
 use crate::telling::say;
 use ltt_base::{Files, Sink};
 use std::alloc::Global;
@@ -29,12 +29,30 @@ pub fn ltt<F: Files, O: Sink, E: Sink>(
     ensures no_form { asked (map string_bytes words.now) ≡ NoForm → (files.new ≡ files.old) × (out.new ≡ out.old) }
     ensures many_files { asked (map string_bytes words.now) ≡ TooManyFiles → (files.new ≡ files.old) × (out.new ≡ out.old) }
 {
-    let [command, names @ ..] = words else {
+    let [word, words @ ..] = words else {
         return say(2, usage_line(), err);
     };
-    if command.as_bytes() == b"lower".as_slice() {
-        lower(alloc, names, files, out, err)
-    } else {
-        say(2, usage_line(), err)
+    let word = word.as_bytes();
+    if word == b"lower".as_slice() {
+        return on_files(alloc, Command { kind: Kind::Lower }, words, files, out, err);
     }
+    if word == b"check".as_slice() {
+        return on_files(alloc, Command { kind: Kind::Check }, words, files, out, err);
+    }
+    if word == b"reprint".as_slice() {
+        return on_one(
+            alloc,
+            Command {
+                kind: Kind::Reprint,
+            },
+            words,
+            files,
+            out,
+            err,
+        );
+    }
+    if word == b"run".as_slice() {
+        return on_run(alloc, words, files, out, err);
+    }
+    say(2, usage_line(), err)
 }

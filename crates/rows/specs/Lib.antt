@@ -1,1 +1,1 @@
-pub mod Standing
+-- Nothing: the crate holds tests alone.

@@ -1,11 +1,9 @@
-//! Worked examples: calls of `ltt` over files and sinks in memory, runs, and tables of arithmetic. It holds tests alone.
+//! Worked examples: calls of `ltt` over files and sinks in memory. It holds tests alone.
 #![tactic(auto)]
 
 #[cfg(test)]
-mod arithmetic;
+mod check;
 #[cfg(test)]
 mod lower;
 #[cfg(test)]
-mod runs;
-#[cfg(test)]
-mod values;
+mod run;

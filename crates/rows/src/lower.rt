@@ -183,7 +183,7 @@ const USAGE: &str =
     "usage: ltt lower|show|summary|check FILE... | reprint FILE | run N ENTRY ANSWERS FILE... | place BASE N ENTRY ANSWERS FILE... | gen SEED CLASSES\n";
 
 /// The words of a call.
-fn words(alloc: Global, given: &[&str]) -> Result<Vec<String>, AllocError> {
+pub fn words(alloc: Global, given: &[&str]) -> Result<Vec<String>, AllocError> {
     let mut words = Vec::new(alloc);
     for word in given {
         words.push(String::from_str(alloc, word)?)?;
@@ -201,7 +201,7 @@ fn a_file_is_lowered_or_refused(rt: HostRuntime) -> Result<(), Fail> {
         (WITH_VARIABLE, 0, WITH_VARIABLE_LOWERED, ""),
         (TOO_FAR, 1, "", "ltt: E07 a.ll:1:1: form\n"),
         (NOT_CARRIED, 1, "", "ltt: E07 a.ll:1:1: form\n"),
-        (SAME_NAME, 1, "", "ltt: E07 a.ll:1:1: form\n"),
+        (SAME_NAME, 1, "", "ltt: E04 a.ll:6:1: @t\n"),
         (TWO_PARAMETERS, 1, "", "ltt: E07 a.ll:1:1: form\n"),
         (DROPPED_WORDS, 0, THIN_LOWERED, ""),
         (CUT_SWITCH, 1, "", "ltt: E02 a.ll:2:3: switch\n"),
