@@ -8,3 +8,4 @@ pub mod StoreLaws
 pub mod NumberStoreLaws
 pub mod KeepLaws
 pub mod NumberKeepLaws
+pub mod PlaceLaws

@@ -11,7 +11,7 @@ use crate::values::Value;
 use ir_values::{Const, Ty, align_of, is_laid_out, size_of};
 use ltt_base::{List, Memory};
 use std::alloc::Global;
-use type_metadata::Item;
+use type_metadata::Listing;
 
 /// The cells of a constant, and the alignment that it has in a struct.
 #[derive(Debug, Drop)]
@@ -31,7 +31,7 @@ pub(crate) trait Addresses {
 /// The addresses in a file of the source.
 #[derive(Clone, Copy)]
 pub(crate) struct Source<'a> {
-    pub(crate) items: &'a [Item],
+    pub(crate) items: &'a Listing,
     pub(crate) file: u32,
 }
 

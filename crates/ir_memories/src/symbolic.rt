@@ -9,7 +9,7 @@ use crate::values::{Goal, NoMemory, Value};
 use ir_values::{Linkage, Module, Ty, TypeId};
 use ltt_base::{Copied, List, Text};
 use std::alloc::Global;
-use type_metadata::{Denoted, Item, Object, Types, denoted_among, first_called, is_same_object};
+use type_metadata::{Denoted, Item, Listing, Object, Types, is_same_object};
 
 /// A pointer of the source: null, or an object and an offset modulo 2^64.
 ///
@@ -38,7 +38,7 @@ pub struct Space {
 /// The memory of source modules: their items, and beside each what it holds.
 #[derive(Debug, Drop)]
 pub struct Symbolic {
-    pub items: List<Item>,
+    pub items: Listing,
     pub spaces: List<Space>,
     pub types: Types,
 }
@@ -47,7 +47,7 @@ impl Symbolic {
     fn space(&self, object: Object) -> Option<&Space>
         ensures { option_copied result ≡ symbols.space_of self.now object }
     {
-        match place_of(self.items.items(), object) {
+        match place_of(&self.items, object) {
             Some(at) => self.spaces.get(at),
             None => None,
         }
@@ -101,15 +101,10 @@ fn may_store(space: &Space, v: &Value<SPtr>, offset: u64) -> bool
 }
 
 /// The place of an object among items.
-fn place_of(items: &[Item], object: Object) -> Option<usize>
+fn place_of(items: &Listing, object: Object) -> Option<usize>
     ensures { result ≡ symbols.place_of object 0 items.now }
 {
-    for at in 0..items.len() {
-        if is_same_object(items[at].object, object) {
-            return Some(at);
-        }
-    }
-    None
+    items.place_of(object)
 }
 
 fn moved(p: SPtr, by: u64) -> SPtr
@@ -139,16 +134,16 @@ fn from_nowhere(offset: u64) -> SPtr
 }
 
 /// The object of a name in a file: that of its definition, or its first declaration.
-fn object_of(items: &[Item], file: u32, name: &[u8]) -> Option<Object>
+fn object_of(items: &Listing, file: u32, name: &[u8]) -> Option<Object>
     ensures { result ≡ symbols.object_of items.now file name.now }
 {
-    match denoted_among(items, file, name) {
+    match items.denoted(file, name) {
         Denoted::Item(object) => Some(object),
-        Denoted::External => first_called(items, Linkage::External, name),
+        Denoted::External => items.declared(name),
     }
 }
 
-pub(crate) fn pointer_to(items: &[Item], file: u32, name: &[u8], offset: u64) -> SPtr
+pub(crate) fn pointer_to(items: &Listing, file: u32, name: &[u8], offset: u64) -> SPtr
     ensures { result ≡ symbols.pointer_to items.now file name.now offset }
 {
     match object_of(items, file, name) {
@@ -204,7 +199,7 @@ impl Memory for Symbolic {
     }
 
     fn address(&self, file: u32, name: &[u8], offset: u64) -> SPtr {
-        pointer_to(self.items.items(), file, name, offset)
+        pointer_to(&self.items, file, name, offset)
     }
 
     fn moved(&self, p: SPtr, by: u64) -> SPtr {
@@ -227,7 +222,7 @@ impl Memory for Symbolic {
     {
         match p {
             SPtr::Null => false,
-            SPtr::At(object, offset) => match place_of(self.items.items(), object) {
+            SPtr::At(object, offset) => match place_of(&self.items, object) {
                 Some(at) => self.put(at, v, offset),
                 None => false,
             },
@@ -261,8 +256,8 @@ impl Memory for Symbolic {
         let SPtr::At(object, 0) = p else {
             return Ok(None);
         };
-        match place_of(self.items.items(), object) {
-            Some(at) => match self.items.get(at) {
+        match place_of(&self.items, object) {
+            Some(at) => match self.items.items().get(at) {
                 Some(item) => goal_of(alloc, item),
                 None => Ok(None),
             },

@@ -7,7 +7,7 @@ use ir_values::{Entry, Linkage, Module, Ty, TypeId, Var, Width};
 use ltt_base::{List, Place, Text};
 use std::alloc::Global;
 use std::test::Fail;
-use type_metadata::{Item, Object, Types, collect};
+use type_metadata::{Item, Listing, Object, Types, collect};
 
 fn one<T: Drop>(alloc: Global, item: T) -> Result<List<T>, NoMemory>
     ensures { IfOk result (λ list. list ≡ item ∷ []) }
@@ -111,7 +111,7 @@ fn an_external_function_is_told_by_its_name(rt: HostRuntime) -> Result<(), Fail>
         entries: List::new(alloc),
     };
     let memory = Symbolic {
-        items: one(alloc, item)?,
+        items: Listing::new(alloc, one(alloc, item)?)?,
         spaces: List::new(alloc),
         types: Types {
             ids: List::new(alloc),

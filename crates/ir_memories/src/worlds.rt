@@ -9,7 +9,7 @@ use crate::values::NoMemory;
 use ir_values::{Func, Module, Var};
 use ltt_base::{List, Memory};
 use std::alloc::Global;
-use type_metadata::{Item, Types, extent_of, items_of};
+use type_metadata::{Listing, Types, extent_of, items_of};
 
 impl Symbolic {
     /// The memory of these modules, whose types these are. It takes all its cells here.
@@ -28,8 +28,8 @@ fn made(alloc: Global, modules: &[Module], types: &Types) -> Result<Symbolic, Me
     requires { worlds.AreSource modules.now types.now }
     ensures { IfOk result (λ memory. memory ≡ worlds.world modules.now types.now) }
 {
-    let items = items_of(alloc, modules)?;
-    let spaces = spaces_of(alloc, items.items(), modules)?;
+    let items = Listing::new(alloc, items_of(alloc, modules)?)?;
+    let spaces = spaces_of(alloc, &items, modules)?;
     Ok(Symbolic {
         items,
         spaces,
@@ -37,7 +37,7 @@ fn made(alloc: Global, modules: &[Module], types: &Types) -> Result<Symbolic, Me
     })
 }
 
-fn spaces_of(alloc: Global, items: &[Item], modules: &[Module]) -> Result<List<Space>, Memory>
+fn spaces_of(alloc: Global, items: &Listing, modules: &[Module]) -> Result<List<Space>, Memory>
     requires files { length modules.now < 2 ^ 32 }
     requires laid { All worlds.IsLaid modules.now }
     ensures { IfOk result (λ spaces. spaces ≡ worlds.spaces_from items.now 1 modules.now) }
@@ -52,7 +52,7 @@ fn spaces_of(alloc: Global, items: &[Item], modules: &[Module]) -> Result<List<S
 fn add_module(
     alloc: Global,
     spaces: &mut List<Space>,
-    items: &[Item],
+    items: &Listing,
     file: u32,
     module: &Module,
 ) -> Result<(), Memory>
@@ -66,7 +66,7 @@ fn add_module(
 fn add_variables(
     alloc: Global,
     spaces: &mut List<Space>,
-    items: &[Item],
+    items: &Listing,
     file: u32,
     variables: &[Var],
 ) -> Result<(), Memory>
@@ -79,7 +79,12 @@ fn add_variables(
     Ok(())
 }
 
-fn variable_space(alloc: Global, items: &[Item], file: u32, variable: &Var) -> Result<Space, Memory>
+fn variable_space(
+    alloc: Global,
+    items: &Listing,
+    file: u32,
+    variable: &Var,
+) -> Result<Space, Memory>
     requires { IsLaidOut variable.now.ty }
     ensures { IfOk result (λ space. space ≡ worlds.variable_space items.now file variable.now) }
 {

@@ -3,4 +3,5 @@ pub mod DistinctLaws
 pub mod RowLaws
 pub mod CarrierLaws
 pub mod DenotedLaws
+pub mod KeyLaws
 pub mod ExampleLaws

@@ -6,6 +6,9 @@ pub mod Counted
 pub mod Items
 pub mod Denoted
 pub mod Same
+pub mod Places
 pub mod Marks
 pub mod Types
 pub mod Laws
+-- what private clauses cite besides
+pub mod Listed

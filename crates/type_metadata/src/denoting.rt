@@ -3,7 +3,6 @@ ghost use Rattle.type_metadata.specs.Counted.{AreCounted, IsCounted};
 ghost use Rattle.type_metadata.specs.Items as listed;
 ghost use Rattle.type_metadata.specs.Denoted as names;
 
-use crate::items::Item;
 use crate::objects::{Denoted, Object};
 use ir_values::{Func, Linkage, Module, Var};
 
@@ -27,22 +26,6 @@ pub fn denotes(modules: &[Module], file: u32, name: &[u8]) -> Denoted
     }
 }
 
-/// What a name in a file denotes among the items of a list of modules.
-pub fn denoted_among(items: &[Item], file: u32, name: &[u8]) -> Denoted
-    ensures { result ≡ names.denoted items.now file name.now }
-{
-    if let Some(object) = own(items, file, name) {
-        return Denoted::Item(object);
-    }
-    if let Some(object) = first_called(items, Linkage::Strong, name) {
-        return Denoted::Item(object);
-    }
-    match first_called(items, Linkage::Weak, name) {
-        Some(object) => Denoted::Item(object),
-        None => Denoted::External,
-    }
-}
-
 pub(crate) fn is_same_linkage(one: Linkage, other: Linkage) -> bool
     ensures { result ≡ names.is_same_linkage one other }
 {
@@ -53,35 +36,6 @@ pub(crate) fn is_same_linkage(one: Linkage, other: Linkage) -> bool
         (Linkage::External, Linkage::External) => true,
         _ => false,
     }
-}
-
-fn is_called(item: &Item, linkage: Linkage, name: &[u8]) -> bool
-    ensures { result ≡ names.is_called linkage name.now item.now }
-{
-    is_same_linkage(item.linkage, linkage) && item.name.bytes() == name
-}
-
-fn own(items: &[Item], file: u32, name: &[u8]) -> Option<Object>
-    ensures { result ≡ names.first (names.is_own file name.now) items.now }
-{
-    for item in items {
-        if item.object.file == file && is_called(item, Linkage::Private, name) {
-            return Some(item.object);
-        }
-    }
-    None
-}
-
-/// The first item of this linkage and name.
-pub fn first_called(items: &[Item], linkage: Linkage, name: &[u8]) -> Option<Object>
-    ensures { result ≡ names.first (names.is_called linkage name.now) items.now }
-{
-    for item in items {
-        if is_called(item, linkage, name) {
-            return Some(item.object);
-        }
-    }
-    None
 }
 
 fn own_in(modules: &[Module], file: u32, name: &[u8]) -> Option<Object>

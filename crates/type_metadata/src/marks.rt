@@ -1,8 +1,9 @@
 ghost use Rattle.std.specs.Prelude.{◌≡◌, ◌++◌, IfOk, OnOk, map};
 ghost use Rattle.type_metadata.specs.Marks as marked;
 
-use crate::denoting::{denoted_among, is_same_linkage};
+use crate::denoting::is_same_linkage;
 use crate::items::Item;
+use crate::listing::Listing;
 use crate::objects::{Carrier, Denoted, Object, is_same_object};
 use ir_values::{Entry, Linkage, TypeId};
 use ltt_base::{Copied, List, Memory};
@@ -16,25 +17,25 @@ pub struct Mark {
 }
 
 /// The entries of the kept definitions among these items, in their order.
-pub(crate) fn marks_of(alloc: Global, items: &[Item]) -> Result<List<Mark>, Memory>
-    ensures { IfOk result (λ marks. marks ≡ marked.marks_from items.now items.now) }
+pub(crate) fn marks_of(alloc: Global, listing: &Listing) -> Result<List<Mark>, Memory>
+    ensures { IfOk result (λ marks. marks ≡ marked.marks_from listing.now listing.now) }
 {
     let mut marks = List::new(alloc);
-    for item in items {
-        if is_kept(items, item) {
+    for item in listing.items() {
+        if is_kept(listing, item) {
             add_entries(alloc, &mut marks, item.object, item.entries.items())?;
         }
     }
     Ok(marks)
 }
 
-fn is_kept(items: &[Item], item: &Item) -> bool
-    ensures { result ≡ marked.is_kept items.now item.now }
+fn is_kept(listing: &Listing, item: &Item) -> bool
+    ensures { result ≡ marked.is_kept listing.now item.now }
 {
     if is_same_linkage(item.linkage, Linkage::Private) {
         return true;
     }
-    match denoted_among(items, item.object.file, item.name.bytes()) {
+    match listing.denoted(item.object.file, item.name.bytes()) {
         Denoted::Item(object) => is_same_object(object, item.object),
         Denoted::External => false,
     }

@@ -2,7 +2,7 @@
 ghost use Rattle.std.specs.Prelude.{IfOk, ◌≡◌, ◌∷◌, []};
 ghost use Rattle.type_metadata.specs.Counted.{IsCounted, AreCounted};
 
-use crate::{Denoted, Object, collect, denotes, extent_of, is_same_object, items_of};
+use crate::{Denoted, Listing, Object, collect, denotes, extent_of, is_same_object, items_of};
 use ir_values::{Entry, Linkage, Module, Ty, TypeId, Var, Width};
 use ltt_base::{List, Memory, Place, Text};
 use std::alloc::Global;
@@ -113,6 +113,43 @@ fn a_declared_name_denotes_its_definition(rt: HostRuntime) -> Result<(), Fail> {
     match denotes(modules.items(), 1, b"a") {
         Denoted::Item(object) => assert!(rt; is_same_object(object, DEFINED)),
         Denoted::External => assert!(rt; false),
+    }
+    Ok(())
+}
+
+#[test]
+fn a_listing_finds_names_and_objects(rt: HostRuntime) -> Result<(), Fail> {
+    let alloc = rt.alloc();
+    let modules = modules(alloc)?;
+    let listing = Listing::new(alloc, items_of(alloc, modules.items())?)?;
+    assert_eq!(rt; listing.items().len(), 2);
+    match listing.denoted(1, b"a") {
+        Denoted::Item(object) => assert!(rt; is_same_object(object, DEFINED)),
+        Denoted::External => assert!(rt; false),
+    }
+    match listing.declared(b"a") {
+        Some(object) => assert_eq!(rt; listing.place_of(object), Some(0)),
+        None => assert!(rt; false),
+    }
+    assert_eq!(rt; listing.place_of(DEFINED), Some(1));
+    Ok(())
+}
+
+#[test]
+fn a_private_name_is_of_its_file(rt: HostRuntime) -> Result<(), Fail> {
+    let alloc = rt.alloc();
+    let mut modules = one(alloc, module(alloc, Linkage::Private)?)?;
+    modules.add(module(alloc, Linkage::Private)?)?;
+    let listing = Listing::new(alloc, items_of(alloc, modules.items())?)?;
+    for file in [1u32, 2] {
+        match listing.denoted(file, b"a") {
+            Denoted::Item(object) => assert_eq!(rt; object.file, file),
+            Denoted::External => assert!(rt; false),
+        }
+    }
+    match listing.denoted(3, b"a") {
+        Denoted::Item(_) => assert!(rt; false),
+        Denoted::External => {}
     }
     Ok(())
 }

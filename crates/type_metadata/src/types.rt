@@ -7,6 +7,7 @@ ghost use Rattle.type_metadata.specs.Marks as marked;
 ghost use Rattle.type_metadata.specs.Types as typed;
 
 use crate::items::items_of;
+use crate::listing::Listing;
 use crate::marks::{Mark, marks_of};
 use crate::objects::{Carrier, Object, is_same_carrier, is_same_id};
 use ir_values::{Module, TypeId};
@@ -116,8 +117,8 @@ fn collected(alloc: Global, modules: &[Module]) -> Result<Types, Memory>
     requires { AreCounted modules.now }
     ensures { IfOk result (typed.AreTypes modules.now) }
 {
-    let items = items_of(alloc, modules)?;
-    let marks = marks_of(alloc, items.items())?;
+    let listing = Listing::new(alloc, items_of(alloc, modules)?)?;
+    let marks = marks_of(alloc, &listing)?;
     let ids = ids_of(alloc, marks.items())?;
     let carriers = rows_of(alloc, ids.items(), marks.items())?;
     Ok(Types { ids, carriers })
