@@ -13,8 +13,6 @@ mod numbers;
 mod output;
 mod parts;
 mod printing;
-#[cfg(test)]
-mod tests;
 mod types;
 
 pub use buffer::Buffer;

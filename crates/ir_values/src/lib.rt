@@ -2,15 +2,11 @@
 #![tactic(auto)]
 
 mod arithmetic;
-#[cfg(test)]
-mod arithmetic_tests;
 mod constants;
 mod instructions;
 mod layout;
 mod modules;
 mod numbers;
-#[cfg(test)]
-mod tests;
 mod types;
 mod units;
 

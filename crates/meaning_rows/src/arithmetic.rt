@@ -27,7 +27,7 @@ const OPERATIONS: [BinOp; 13] = [
 type Row = (u64, u64, &'static str);
 
 /// The greatest number of a width.
-fn greatest(width: Width) -> u64
+pub fn greatest(width: Width) -> u64
     ensures { result ≡ 2 ^ bits width - 1 }
 {
     u64::MAX >> (64 - bits(width))

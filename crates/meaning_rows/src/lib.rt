@@ -8,7 +8,11 @@ mod arithmetic;
 #[cfg(test)]
 mod carrying;
 #[cfg(test)]
+mod comparisons;
+#[cfg(test)]
 mod instructions;
+#[cfg(test)]
+mod layouts;
 #[cfg(test)]
 mod machine;
 #[cfg(test)]

@@ -1,5 +1,5 @@
 // The limit of sizes, and that a copy is made where memory is there.
-use crate::{Ty, Width, is_laid_out};
+use ir_values::{Ty, Width, is_laid_out};
 use ltt_base::{Boxed, List, Memory, Same};
 use std::alloc::Global;
 use std::test::Fail;

@@ -1,10 +1,10 @@
-// That the definitions of the arithmetic mean what the standard means: the corners, computed with Python's integers.
+// Comparisons and casts at the corners of each width, computed with Python's integers.
 ghost use Rattle.std.specs.Prelude.{◌↔◌, IsTrue};
 ghost use Rattle.ir_values.specs.Numbers.{bits};
 ghost use Rattle.ir_values.specs.Arithmetic.{Casts};
 
-use crate::numbers::all_ones;
-use crate::{CastOp, Pred, Width, bits, cast, compare};
+use crate::arithmetic::greatest;
+use ir_values::{CastOp, Pred, Width, bits, cast, compare};
 use std::test::Fail;
 
 const PREDICATES: [(Pred, &str); 10] = [
@@ -62,7 +62,7 @@ static HOLDING: [(Width, u64, u64, &str); 31] = [
 #[test]
 fn predicates_at_the_corners_of_each_width(rt: HostRuntime) -> Result<(), Fail> {
     for (width, a, b, wanted) in HOLDING {
-        assert!(rt; a <= all_ones(width) && b <= all_ones(width));
+        assert!(rt; a <= greatest(width) && b <= greatest(width));
         let mut holding = String::new(rt.alloc());
         for (pred, word) in PREDICATES {
             if compare(pred, width, a, b) {
@@ -162,7 +162,7 @@ fn converts(op: CastOp, from: Width, to: Width) -> bool
 #[test]
 fn casts_at_the_corners_of_each_width(rt: HostRuntime) {
     for (op, from, to, a, wanted) in CASTS {
-        assert!(rt; a <= all_ones(from) && converts(op, from, to));
+        assert!(rt; a <= greatest(from) && converts(op, from, to));
         assert_eq!(rt;
             cast(op, from, to, a),
             wanted,
