@@ -1,5 +1,4 @@
-//! Tables of texts through the reader and the check: what is accepted, and what is refused at which place; and of units through
-//! the parts of the check. It holds tests alone.
+//! Tables of texts through the reader and the check: what is accepted, and what is refused at which place. It holds tests alone.
 #![tactic(auto)]
 
 #[cfg(test)]
@@ -12,6 +11,8 @@ mod checking;
 mod items;
 #[cfg(test)]
 mod names;
+#[cfg(test)]
+mod outputs;
 #[cfg(test)]
 mod spaces;
 #[cfg(test)]

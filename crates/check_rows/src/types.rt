@@ -109,6 +109,13 @@ fn faults_of_types(rt: HostRuntime) {
         ),
         ("@a = global i8 0, align 0", Code::E06, 1, 1, "@a"),
         (
+            "@a = global i8 0, align 18446744073709551616",
+            Code::E06,
+            1,
+            1,
+            "@a",
+        ),
+        (
             "@a = global { void } zeroinitializer",
             Code::E06,
             1,
@@ -493,6 +500,8 @@ fn limits_of_a_file(rt: HostRuntime) {
             "type",
         ),
         ("%T = type [16777217 x i8]", "type"),
+        ("@a = external global [16777217 x i1]", "type"),
+        ("@a = external global [18446744073709551615 x i16]", "type"),
         (
             "@a = global [16777217 x i8] zeroinitializer, align 8192",
             "type",
@@ -505,13 +514,13 @@ fn limits_of_a_file(rt: HostRuntime) {
     }
 }
 
-/// A function with so many additions in its one block.
+/// A function with so many additions in its first block, which a branch ends.
 fn additions(alloc: Global, count: u32) -> Result<String, AllocError> {
     let mut text = String::from_str(alloc, "define i32 @f(i32 %x) {\n")?;
     for _ in 0..count {
         text.push_str("  add i32 %x, 1\n")?;
     }
-    text.push_str("  ret i32 %x\n}\n")?;
+    text.push_str("  br label %a\na:\n  ret i32 %x\n}\n")?;
     Ok(text)
 }
 
@@ -530,5 +539,26 @@ fn a_block_has_4096_instructions_at_most(rt: HostRuntime) -> Result<(), Fail> {
             "instructions"
         )
     );
+    Ok(())
+}
+
+/// A variable with so many entries, each of another identifier.
+fn identified(alloc: Global, count: u32) -> Result<String, AllocError> {
+    let mut text = String::from_str(alloc, "@v = global i8 0")?;
+    for n in 0..count {
+        write!(text, ", !type !{n}")?;
+    }
+    for n in 0..count {
+        write!(text, "\n!{n} = !{{i64 0, !\"{n}\"}}")?;
+    }
+    Ok(text)
+}
+
+#[test]
+fn a_file_has_65536_identifiers_at_most(rt: HostRuntime) -> Result<(), Fail> {
+    let text = identified(rt.alloc(), 65_536)?;
+    assert!(rt; is_accepted(rt.alloc(), text.as_str()));
+    let text = identified(rt.alloc(), 65_537)?;
+    assert!(rt; is_refused(rt.alloc(), text.as_str(), Code::E12, 1, 1, "identifiers"));
     Ok(())
 }

@@ -1,8 +1,5 @@
 // The command `check`.
-use crate::lower::words;
-use ltt_base::{MemFiles, MemSink};
-use ltt_driver::ltt;
-use std::test::Fail;
+use crate::calls::tells;
 
 /// A pointer as a number, which only outputs have.
 const POINTER_AS_NUMBER: &str = "\
@@ -26,8 +23,8 @@ const PAST_THE_END: &str = "\
 ";
 
 #[test]
-fn a_file_is_accepted_or_refused(rt: HostRuntime) -> Result<(), Fail> {
-    let words = words(rt.alloc(), &["check", "a.ll"])?;
+fn a_file_is_accepted_or_refused(rt: HostRuntime) {
+    let words = ["check", "a.ll"];
     for (text, status, told, line) in [
         ("", 0, "accepted 1\n", ""),
         ("@a = global i32 0", 0, "accepted 1\n", ""),
@@ -55,14 +52,9 @@ fn a_file_is_accepted_or_refused(rt: HostRuntime) -> Result<(), Fail> {
             "ltt: E12 a.ll:1:1: align\n",
         ),
     ] {
-        let mut files = MemFiles::new(rt.alloc());
-        files.add("a.ll", text.as_bytes())?;
-        let mut out = MemSink::new(rt.alloc(), 100, 100)?;
-        let mut err = MemSink::new(rt.alloc(), 100, 100)?;
-        let answer = ltt(rt.alloc(), words.as_slice(), &mut files, &mut out, &mut err);
-        assert_eq!(rt; answer, status, "{text}");
-        assert_eq!(rt; out.taken(), told.as_bytes(), "{text}");
-        assert_eq!(rt; err.taken(), line.as_bytes(), "{text}");
+        assert!(rt;
+            tells(rt.alloc(), &words, text, status, told, line),
+            "{text}"
+        );
     }
-    Ok(())
 }

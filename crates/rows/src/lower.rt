@@ -1,7 +1,6 @@
 // The command `lower`.
-use ltt_base::{MemFiles, MemSink};
-use ltt_driver::ltt;
-use std::alloc::{AllocError, Global};
+use crate::calls::{USAGE, call, one_file, tells, wide_sink};
+use ltt_base::MemSink;
 use std::test::Fail;
 
 /// A variable with an entry in its middle, and a test for the entry's identifier.
@@ -179,21 +178,9 @@ define void @f(i32 %x) {
     i32 0, label
 ";
 
-const USAGE: &str =
-    "usage: ltt lower|show|summary|check FILE... | reprint FILE | run N ENTRY ANSWERS FILE... | place BASE N ENTRY ANSWERS FILE... | gen SEED CLASSES\n";
-
-/// The words of a call.
-pub fn words(alloc: Global, given: &[&str]) -> Result<Vec<String>, AllocError> {
-    let mut words = Vec::new(alloc);
-    for word in given {
-        words.push(String::from_str(alloc, word)?)?;
-    }
-    Ok(words)
-}
-
 #[test]
-fn a_file_is_lowered_or_refused(rt: HostRuntime) -> Result<(), Fail> {
-    let words = words(rt.alloc(), &["lower", "a.ll"])?;
+fn a_file_is_lowered_or_refused(rt: HostRuntime) {
+    let words = ["lower", "a.ll"];
     for (text, status, lowered, line) in [
         (THIN, 0, THIN_LOWERED, ""),
         (AT_THE_END, 0, AT_THE_END_LOWERED, ""),
@@ -210,20 +197,15 @@ fn a_file_is_lowered_or_refused(rt: HostRuntime) -> Result<(), Fail> {
         ("@\"0\" = global i32 0", 1, "", "ltt: E01 a.ll:1:1: 0x40\n"),
         ("@a = global i32 0", 1, "", "ltt: E07 a.ll:1:1: form\n"),
     ] {
-        let mut files = MemFiles::new(rt.alloc());
-        files.add("a.ll", text.as_bytes())?;
-        let mut out = MemSink::new(rt.alloc(), 500, 500)?;
-        let mut err = MemSink::new(rt.alloc(), 500, 500)?;
-        let answer = ltt(rt.alloc(), words.as_slice(), &mut files, &mut out, &mut err);
-        assert_eq!(rt; answer, status, "{text}");
-        assert_eq!(rt; out.taken(), lowered.as_bytes(), "{text}");
-        assert_eq!(rt; err.taken(), line.as_bytes(), "{text}");
+        assert!(rt;
+            tells(rt.alloc(), &words, text, status, lowered, line),
+            "{text}"
+        );
     }
-    Ok(())
 }
 
 #[test]
-fn words_without_one_file_are_told(rt: HostRuntime) -> Result<(), Fail> {
+fn words_without_one_file_that_is_there_are_told(rt: HostRuntime) {
     for (given, status, line) in [
         (["lower"].as_slice(), 2, USAGE),
         (
@@ -231,50 +213,28 @@ fn words_without_one_file_are_told(rt: HostRuntime) -> Result<(), Fail> {
             6,
             "ltt: E12 -:0:0: files\n",
         ),
+        (["lower", "b.ll"].as_slice(), 3, "ltt: read fault: b.ll\n"),
     ] {
-        let words = words(rt.alloc(), given)?;
-        let mut files = MemFiles::new(rt.alloc());
-        files.add("a.ll", THIN.as_bytes())?;
-        let mut out = MemSink::new(rt.alloc(), 500, 500)?;
-        let mut err = MemSink::new(rt.alloc(), 500, 500)?;
-        let answer = ltt(rt.alloc(), words.as_slice(), &mut files, &mut out, &mut err);
-        assert_eq!(rt; answer, status, "{line}");
-        assert_eq!(rt; out.taken(), b"".as_slice(), "{line}");
-        assert_eq!(rt; err.taken(), line.as_bytes(), "{line}");
+        assert!(rt; tells(rt.alloc(), given, THIN, status, "", line), "{line}");
     }
-    Ok(())
 }
 
 #[test]
 fn a_file_that_stops_in_the_middle_writes_nothing(rt: HostRuntime) -> Result<(), Fail> {
-    let words = words(rt.alloc(), &["lower", "a.ll"])?;
-    let mut files = MemFiles::new(rt.alloc());
-    files.add("a.ll", THIN.as_bytes())?;
+    let mut files = one_file(rt.alloc(), THIN)?;
     files.fail_read(2)?;
-    let mut out = MemSink::new(rt.alloc(), 500, 500)?;
-    let mut err = MemSink::new(rt.alloc(), 500, 500)?;
-    assert_eq!(rt;
-        ltt(rt.alloc(), words.as_slice(), &mut files, &mut out, &mut err),
-        3
-    );
-    assert_eq!(rt; out.taken(), b"".as_slice());
-    assert_eq!(rt; err.taken(), b"ltt: read fault: a.ll\n".as_slice());
+    let out = wide_sink(rt.alloc())?;
+    let told = call(rt.alloc(), &["lower", "a.ll"], files, out)?;
+    assert!(rt; told.is(3, "", "ltt: read fault: a.ll\n"));
     Ok(())
 }
 
 #[test]
 fn an_output_that_stops_in_the_middle_has_a_prefix(rt: HostRuntime) -> Result<(), Fail> {
-    let words = words(rt.alloc(), &["lower", "a.ll"])?;
-    let mut files = MemFiles::new(rt.alloc());
-    files.add("a.ll", THIN.as_bytes())?;
+    let files = one_file(rt.alloc(), THIN)?;
     let mut out = MemSink::new(rt.alloc(), 500, 16)?;
     out.fail_write(2)?;
-    let mut err = MemSink::new(rt.alloc(), 500, 500)?;
-    assert_eq!(rt;
-        ltt(rt.alloc(), words.as_slice(), &mut files, &mut out, &mut err),
-        4
-    );
-    assert_eq!(rt; out.taken(), b"@.ltt.gv.0 = pri".as_slice());
-    assert_eq!(rt; err.taken(), b"ltt: write fault\n".as_slice());
+    let told = call(rt.alloc(), &["lower", "a.ll"], files, out)?;
+    assert!(rt; told.is(4, "@.ltt.gv.0 = pri", "ltt: write fault\n"));
     Ok(())
 }

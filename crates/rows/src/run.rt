@@ -1,8 +1,5 @@
 // The commands `run` and `reprint`.
-use crate::lower::words;
-use ltt_base::{MemFiles, MemSink};
-use ltt_driver::ltt;
-use std::test::Fail;
+use crate::calls::{USAGE, tells};
 
 /// A virtual call as clang writes it.
 const VIRTUAL_CALL: &str = "\
@@ -122,7 +119,7 @@ define void @main() {
 ";
 
 #[test]
-fn a_file_runs_so_many_steps(rt: HostRuntime) -> Result<(), Fail> {
+fn a_file_runs_so_many_steps(rt: HostRuntime) {
     for (text, given, status, told, line) in [
         (
             VIRTUAL_CALL,
@@ -181,40 +178,29 @@ fn a_file_runs_so_many_steps(rt: HostRuntime) -> Result<(), Fail> {
             "",
         ),
     ] {
-        let words = words(rt.alloc(), given.as_slice())?;
-        let mut files = MemFiles::new(rt.alloc());
-        files.add("a.ll", text.as_bytes())?;
-        let mut out = MemSink::new(rt.alloc(), 200, 200)?;
-        let mut err = MemSink::new(rt.alloc(), 200, 200)?;
-        let answer = ltt(rt.alloc(), words.as_slice(), &mut files, &mut out, &mut err);
-        assert_eq!(rt; answer, status, "{text}");
-        assert_eq!(rt; out.taken(), told.as_bytes(), "{text}");
-        assert_eq!(rt; err.taken(), line.as_bytes(), "{text}");
+        assert!(rt;
+            tells(rt.alloc(), given.as_slice(), text, status, told, line),
+            "{text}"
+        );
     }
-    Ok(())
 }
 
 #[test]
-fn an_output_is_written_again(rt: HostRuntime) -> Result<(), Fail> {
-    let words = words(rt.alloc(), &["reprint", "a.ll"])?;
+fn an_output_is_written_again(rt: HostRuntime) {
+    let words = ["reprint", "a.ll"];
     for (text, status, written, line) in [
         (THREE_MEMBERS_LOWERED, 0, THREE_MEMBERS_LOWERED, ""),
         (THREE_MEMBERS, 1, "", "ltt: E07 a.ll:1:1: !type\n"),
     ] {
-        let mut files = MemFiles::new(rt.alloc());
-        files.add("a.ll", text.as_bytes())?;
-        let mut out = MemSink::new(rt.alloc(), 1000, 1000)?;
-        let mut err = MemSink::new(rt.alloc(), 200, 200)?;
-        let answer = ltt(rt.alloc(), words.as_slice(), &mut files, &mut out, &mut err);
-        assert_eq!(rt; answer, status, "{text}");
-        assert_eq!(rt; out.taken(), written.as_bytes(), "{text}");
-        assert_eq!(rt; err.taken(), line.as_bytes(), "{text}");
+        assert!(rt;
+            tells(rt.alloc(), &words, text, status, written, line),
+            "{text}"
+        );
     }
-    Ok(())
 }
 
 #[test]
-fn other_words_have_no_form(rt: HostRuntime) -> Result<(), Fail> {
+fn other_words_have_no_form(rt: HostRuntime) {
     for given in [
         ["reprint", "a.ll", "a.ll"].as_slice(),
         ["run", "9", "main", "a.ll"].as_slice(),
@@ -223,14 +209,6 @@ fn other_words_have_no_form(rt: HostRuntime) -> Result<(), Fail> {
         ["run", "9", "main", "1,,2", "a.ll"].as_slice(),
         ["run", "9", "main", "18446744073709551616", "a.ll"].as_slice(),
     ] {
-        let words = words(rt.alloc(), given)?;
-        let mut files = MemFiles::new(rt.alloc());
-        files.add("a.ll", TWO_CALLS.as_bytes())?;
-        let mut out = MemSink::new(rt.alloc(), 200, 200)?;
-        let mut err = MemSink::new(rt.alloc(), 200, 200)?;
-        let answer = ltt(rt.alloc(), words.as_slice(), &mut files, &mut out, &mut err);
-        assert_eq!(rt; answer, 2);
-        assert_eq!(rt; out.taken(), b"".as_slice());
+        assert!(rt; tells(rt.alloc(), given, TWO_CALLS, 2, "", USAGE));
     }
-    Ok(())
 }
