@@ -49,28 +49,28 @@ use Rattle.ir_text.proofs.ModuleStarts.{header_starts, header_some, header_cover
 
 -- types and instructions that set a register
 
-body_told : is_told starts_of more_of named_body ≡ true
+pub body_told : is_told starts_of more_of named_body ≡ true
 unfolding named_body
 body_told = rw (type_body_told, action_told, body_some, action_some, body_apart) refl
 
-named_told : is_told starts_of more_of named ≡ true
+pub named_told : is_told starts_of more_of named ≡ true
 unfolding named
 named_told = rw body_told refl
 
-abbrev named_starts : List Start
+abbrev pub named_starts : List Start
 named_starts = one_sign (of_kind Local) ∷ []
 
-named_some : nullable named ≡ false
+pub named_some : nullable named ≡ false
 unfolding named
 named_some = refl
 
-named_covered : all_covered named_starts (starts starts_of named) ≡ true
+pub named_covered : all_covered named_starts (starts starts_of named) ≡ true
 unfolding named
 named_covered = refl
 
 -- forms
 
-body_begun : IsBegun (Is (IsAt levels) body_form) (Is IsAny body_form) (Opens (IsAt levels) (OpensAt levels) body_form) (read (reads levels) body_form)
+pub body_begun : IsBegun (Is (IsAt levels) body_form) (Is IsAny body_form) (Opens (IsAt levels) (OpensAt levels) body_form) (read (reads levels) body_form)
     (named_starts ++ action_starts ++ plain_action_starts ++ label_starts ++ close_starts)
 unfolding body_form
 body_begun =

@@ -25,7 +25,7 @@ use Rattle.ir_text.proofs.FormLaws.{unit_chosen}
 found_flat : (ts rest : List Piece) (u : TheUnit) → unit_read ts ≡ found u rest → IsTooDeep ts → ⊥
 found_flat ts rest u e o = let d = unit_chosen.deepens ts o in cc
 
-next_unit : (ts rest : List Piece) (u : TheUnit) (place : Place) → unit_read ts ≡ found u rest → StandsAt ts place →
+pub next_unit : (ts rest : List Piece) (u : TheUnit) (place : Place) → unit_read ts ≡ found u rest → StandsAt ts place →
     IsNextUnit ts (record { place = place; value = u }) rest
 next_unit ts rest u place e at = record {
   longest = unit_chosen.longest ts u rest e;

@@ -1,0 +1,5 @@
+pub mod Written
+pub mod Said
+pub mod Printing
+pub mod Lines
+pub mod Laws
