@@ -1,0 +1,13 @@
+pub mod TypeKept
+pub mod WeighedLemmas
+pub mod ConstKept
+pub mod Callees
+pub mod CallKept
+pub mod InstKept
+pub mod ModuleForms
+pub mod KnowsLemmas
+pub mod BodyLemmas
+pub mod ItemLemmas
+pub mod FunctionLemmas
+pub mod ModuleLaws
+pub mod ExampleLaws

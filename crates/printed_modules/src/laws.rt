@@ -1,0 +1,21 @@
+ghost use Rattle.printed_modules.specs.Laws as law;
+
+/// Law: units that say what the lines of a printed module say have the same module.
+///
+/// Source: LLVM Language Reference, "Module Structure".
+pub fn lines_are_the_module()
+    ensures { law.LinesAreTheModule }
+{}
+
+/// Law: the text of a printed module is read as units whose module is the same, up to places, weak items and the names of parameters
+/// of declarations.
+///
+/// Source: LLVM Language Reference, "Module Structure".
+pub fn printed_is_same_again()
+    ensures { law.PrintedIsSameAgain }
+{}
+
+/// Law: some module with a variable, a table, a declaration and a function is as a printed one.
+pub fn example_is_printed()
+    ensures { law.ExampleIsPrinted }
+{}
