@@ -1,0 +1,5 @@
+pub mod CountLemmas
+pub mod NameLemmas
+pub mod VariableLemmas
+pub mod FunctionLemmas
+pub mod OutputLaws
