@@ -17,8 +17,6 @@ use Rattle.ir_values.specs.declared.instructions.Inst.TheVariants as inst
 use Rattle.ir_values.specs.declared.modules.Module.{Module}
 use Rattle.ir_values.specs.declared.units.Head.{Head}
 use Rattle.ir_values.specs.declared.units.Arg.{Arg}
-use Rattle.ir_values.specs.declared.units.Arg.TheVariants.{Value}
-use Rattle.ir_print.specs.declared.intrinsics.Intrinsic.{Intrinsic}
 use Rattle.unit_grammar.proofs.BoolLemmas.{or_neither, or_second}
 use Rattle.type_grammar.specs.Levels.{levels}
 use Rattle.check_names.specs.Reserved.{is_intrinsic}

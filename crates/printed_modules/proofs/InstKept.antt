@@ -8,7 +8,7 @@ use Rattle.ir_values.specs.declared.types.Width.TheVariants.{W1, W8, W64}
 use Rattle.ir_values.specs.declared.types.Ty.{Ty, out-Ty}
 use Rattle.ir_values.specs.declared.types.Ty.TheVariants as ty
 use Rattle.ir_values.specs.declared.types.Ty.TheVariants.{outs-Int}
-use Rattle.ir_values.specs.declared.constants.Const.{Const, out-Const}
+use Rattle.ir_values.specs.declared.constants.Const.{out-Const}
 use Rattle.ir_values.specs.declared.constants.Const.TheVariants as const
 use Rattle.ir_values.specs.declared.constants.Const.TheVariants.{outs-Int as outs-Number}
 use Rattle.ir_values.specs.declared.constants.Operand.{Operand}

@@ -1,4 +1,5 @@
 pub mod TypeKept
+pub mod AlignLemmas
 pub mod WeighedLemmas
 pub mod ConstKept
 pub mod Callees
@@ -9,5 +10,6 @@ pub mod KnowsLemmas
 pub mod BodyLemmas
 pub mod ItemLemmas
 pub mod FunctionLemmas
+pub mod PlainLemmas
 pub mod ModuleLaws
 pub mod ExampleLaws

@@ -1,11 +1,11 @@
 -- What is read again of a printed module: the same module.
-use Rattle.std.proofs.Common.{◌≡◌, ◌∙◌, ℕ, Bool, true, false, List, [], ◌∷◌}
+use Rattle.std.proofs.Common.{◌≡◌, ◌∙◌, ap, sym, ℕ, Bool, true, false, List, [], ◌∷◌}
 use Rattle.std.specs.List.{list_any, AllByRecursion}
 use Rattle.ir_values.specs.declared.modules.Block.{Block}
 use Rattle.ir_values.specs.declared.modules.Func.{Func}
 use Rattle.ir_values.specs.declared.modules.Module.{Module}
 use Rattle.ir_print.specs.declared.intrinsics.Intrinsic.{Intrinsic}
-use Rattle.ir_print.specs.ModuleText.{is_call, is_called}
+use Rattle.ir_print.specs.ModuleText.{is_call, is_called, module_text}
 use Rattle.check_names.specs.Reserved.{is_intrinsic}
 use Rattle.built_modules.specs.Modules.{module_of}
 use Rattle.unit_grammar.proofs.BoolLemmas.{or_first, or_second}
@@ -22,6 +22,7 @@ use Rattle.printed_modules.proofs.ModuleForms.{forms, parts_of, forms_are}
 use Rattle.printed_modules.proofs.KnowsLemmas.{knows}
 use Rattle.printed_modules.proofs.BodyLemmas.{IsAgain}
 use Rattle.printed_modules.proofs.ItemLemmas.{vars_are, tables_are}
+use Rattle.printed_modules.proofs.PlainLemmas.{plain_text}
 use Rattle.printed_modules.proofs.FunctionLemmas.{IsReady, funcs_are}
 
 -- what follows of each item from what follows from some item
@@ -82,4 +83,6 @@ lines_are_the_module us file m printed say =
 pub printed_is_same : PrintedReadsAgain → PrintedIsSameAgain
 printed_is_same reads_again file m printed =
     let reads = reads_again file m printed.written in
-    record { us = reads.us; read = reads.read; same = lines_are_the_module reads.us file m printed reads.say }
+    let again = module_of true reads.us file in
+    let same = lines_are_the_module reads.us file m printed reads.say in
+    record { us = reads.us; read = reads.read; same = same; printed = sym (plain_text again) ∙ ap module_text same ∙ plain_text m }

@@ -152,6 +152,10 @@ pub record IsKeptVar (v : Var) : Type 0 where
 abbrev pub is_declared : Func → Bool
 is_declared f = has_none f.blocks
 
+-- declarations before definitions, each sort in its order
+abbrev pub declared_first : List Func → List Func
+declared_first funcs = filter is_declared funcs ++ filter (λ f. not (is_declared f)) funcs
+
 -- the names of all globals of the text
 abbrev pub globals_of : Module → List (List ℕ)
 globals_of m = (map (λ v. v.name) m.vars ++ map (λ table. table.name) m.jumps) ++ (intrinsics_of m.funcs ++ map (λ f. f.name) m.funcs)
@@ -164,7 +168,7 @@ AreApart (name ∷ names) = (list_any (bytes_eq name) names ≡ false) × AreApa
 -- the one form in which a module keeps them; each global has a name of its own; and no function is an intrinsic.
 pub record IsPrinted (m : Module) : Type 0 where
   pub written : IsWritten m
-  pub order : m.funcs ≡ filter is_declared m.funcs ++ filter (λ f. not (is_declared f)) m.funcs
+  pub order : m.funcs ≡ declared_first m.funcs
   pub vars : AllByRecursion IsKeptVar m.vars
   pub funcs : AllByRecursion (IsKeptFunc m.funcs) m.funcs
   pub apart : AreApart (globals_of m)

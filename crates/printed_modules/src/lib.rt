@@ -3,4 +3,4 @@
 
 mod laws;
 
-pub use laws::{example_is_printed, lines_are_the_module, printed_is_same_again};
+pub use laws::{example_is_printed, lines_are_the_module, plain_is_printed, printed_is_same_again};
