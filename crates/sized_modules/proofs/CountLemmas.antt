@@ -64,7 +64,7 @@ unfolding item_flaw
 variables_few us clean at u here (VariableForm name linkage constant ty init align attached) is counts =
     let form = VariableForm name linkage constant ty init align attached in
     let before = counts_before us at in
-    let none : item_flaw false us at form ≡ None = clean_item us at u form clean here is (λ spot. refl) in
+    let none : item_flaw false us at form ≡ None = clean_item false us at u form clean here is (λ spot. refl) in
     let rest = variable_flaw false us at name linkage ty init align attached then limits_flaw us at before form in
     unbroken_word (nat_le 65536 before.variables) E12 (codes "variables") (none_first (variables_flaw before) rest none)
 variables_few us clean at u here _ is counts = clash false counts refl
@@ -78,13 +78,13 @@ functions_few : (us : Units) → IsClean false us → (at : ℕ) (u : Placed The
 unfolding item_flaw
 functions_few us clean at u here (DeclareForm head) is counts =
     let before = counts_before us at in
-    let none : item_flaw false us at (DeclareForm head) ≡ None = clean_item us at u (DeclareForm head) clean here is (λ spot. refl) in
+    let none : item_flaw false us at (DeclareForm head) ≡ None = clean_item false us at u (DeclareForm head) clean here is (λ spot. refl) in
     let rest = declare_flaw false us at head (DeclareForm head) in
     counted_few (is_function (DeclareForm head)) (nat_le 65536 before.functions) counts
     (unbroken_word (is_function (DeclareForm head) && nat_le 65536 before.functions) E12 (codes "functions") (none_first (functions_flaw before (DeclareForm head)) rest none))
 functions_few us clean at u here (DefineForm head) is counts =
     let before = counts_before us at in
-    let none : item_flaw false us at (DefineForm head) ≡ None = clean_item us at u (DefineForm head) clean here is (λ spot. refl) in
+    let none : item_flaw false us at (DefineForm head) ≡ None = clean_item false us at u (DefineForm head) clean here is (λ spot. refl) in
     let rest = define_flaw false us at head (DefineForm head) then limits_flaw us at before (DefineForm head) in
     unbroken_word (nat_le 65536 before.functions) E12 (codes "functions") (none_first (functions_flaw before (DefineForm head)) rest none)
 functions_few us clean at u here _ is counts = clash false counts refl

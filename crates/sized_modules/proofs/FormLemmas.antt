@@ -23,7 +23,7 @@ use Rattle.module_grammar.specs.Metadata.{numbered_node, named_node, metadata}
 use Rattle.module_grammar.specs.Tables.{table}
 use Rattle.ir_text.specs.Forms.{named_body, named, body_form, module_form, form, number_head, number_form, with_maybe_result}
 use Rattle.sized_modules.specs.Written.{types_in}
-use Rattle.sized_modules.proofs.PartLemmas.{Gives, token_gives, skip_gives, first_gives, second_gives, always_gives, says_gives, before_gives, or_gives}
+use Rattle.sized_modules.proofs.PartLemmas.{Gives, Anything, token_gives, skip_gives, first_gives, second_gives, always_gives, says_gives, before_gives, or_gives}
 use Rattle.sized_modules.proofs.TypeLemmas.{IsWritten}
 
 -- none of the types that the form gives to a name or to its variable holds a pair
@@ -65,12 +65,12 @@ type_name_types name unit = refl
 module _ {E : (x : Name) → Text (Value x)} where
   -- a part whose forms have no types, whatever its texts say
   none_gives : {A : Type 0} {f : List Piece → A → Form} {p : IsPart A} → ((ts : List Piece) (a : A) → types_in (f ts a) ≡ []) →
-      Gives E (says f p) HasWritten
+      Gives Anything E (says f p) HasWritten
   none_gives is = always_gives (λ ts a. none (is ts a))
 
   -- instructions give no types
 
-  action_gives : Gives E action HasWritten
+  action_gives : Gives Anything E action HasWritten
   unfolding action action_body call load address select cast compare extract phi binary
   action_gives =
       before_gives
@@ -84,7 +84,7 @@ module _ {E : (x : Name) → Text (Value x)} where
       (or_gives (none_gives (λ ts x. refl))
       (none_gives (λ ts x. refl))))))))))
 
-  plain_action_gives : Gives E plain_action HasWritten
+  plain_action_gives : Gives Anything E plain_action HasWritten
   unfolding plain_action plain_action_body store branch switch return_part unreachable
   plain_action_gives =
       before_gives
@@ -95,7 +95,7 @@ module _ {E : (x : Name) → Text (Value x)} where
       (none_gives (λ ts x. refl))))))
 
   -- what stands behind a name says a form for each name
-  named_body_gives : Gives E (at a_type) IsWritten → Gives E named_body (λ f. (name : List ℕ) → HasWritten (f name))
+  named_body_gives : Gives Anything E (at a_type) IsWritten → Gives Anything E named_body (λ f. (name : List ℕ) → HasWritten (f name))
   unfolding named_body type_body opaque defined
   named_body_gives types =
       or_gives
@@ -104,37 +104,37 @@ module _ {E : (x : Name) → Text (Value x)} where
       (λ ts unit has name. same (type_name_types name unit) has))
       (says_gives HasWritten action_gives (λ ts unit has name. same (result_types name unit) has))
 
-  named_gives : Gives E (at a_type) IsWritten → Gives E named HasWritten
+  named_gives : Gives Anything E (at a_type) IsWritten → Gives Anything E named HasWritten
   unfolding named
   named_gives types =
       says_gives (λ x. (name : List ℕ) → HasWritten (x.1 name)) (second_gives (skip_gives (named_body_gives types))) (λ ts x has. has x.0)
 
   -- the lines of a body
-  body_gives : Gives E (at a_type) IsWritten → Gives E body_form HasWritten
+  body_gives : Gives Anything E (at a_type) IsWritten → Gives Anything E body_form HasWritten
   unfolding body_form label close
   body_gives types =
       or_gives (named_gives types)
       (or_gives action_gives
       (or_gives plain_action_gives
-      (or_gives (token_gives (λ t. none refl))
-      (token_gives (λ t. none refl)))))
+      (or_gives (token_gives (λ t so. none refl))
+      (token_gives (λ t so. none refl)))))
 
   -- a variable gives the type that is written in it
 
-  kept_gives : Gives E (at a_type) IsWritten → Gives E kept (λ x. IsWritten x.ty)
+  kept_gives : Gives Anything E (at a_type) IsWritten → Gives Anything E kept (λ x. IsWritten x.ty)
   unfolding kept external initial
   kept_gives types =
       or_gives
       (says_gives (λ x. IsWritten x.1.1.1) (second_gives (second_gives (second_gives types))) (λ ts x written. written))
       (says_gives (λ x. IsWritten x.1.1.1.0) (second_gives (second_gives (second_gives (first_gives types)))) (λ ts x written. written))
 
-  variable_gives : Gives E (at a_type) IsWritten → Gives E variable_form HasWritten
+  variable_gives : Gives Anything E (at a_type) IsWritten → Gives Anything E variable_form HasWritten
   unfolding variable_form
   variable_gives types =
       says_gives (λ x. IsWritten x.1.0.ty) (second_gives (skip_gives (first_gives (kept_gives types)))) (λ ts x written. one x.1.0.ty refl written)
 
   -- what stands outside of bodies
-  module_gives : Gives E (at a_type) IsWritten → Gives E module_form HasWritten
+  module_gives : Gives Anything E (at a_type) IsWritten → Gives Anything E module_form HasWritten
   unfolding module_form metadata numbered_node named_node define_form declare_form attributes comdat header source layout triple table
   module_gives types =
       or_gives (variable_gives types)
@@ -147,12 +147,12 @@ module _ {E : (x : Name) → Text (Value x)} where
       (none_gives (λ ts x. refl))))))))
 
   -- all forms
-  pub form_gives : Gives E (at a_type) IsWritten → Gives E form HasWritten
+  pub form_gives : Gives Anything E (at a_type) IsWritten → Gives Anything E form HasWritten
   unfolding form
   form_gives types = or_gives (body_gives types) (module_gives types)
 
   -- the number of a pointer
-  pub number_gives : Gives E number_form HasWritten
+  pub number_gives : Gives Anything E number_form HasWritten
   unfolding number_form number_head number
   number_gives =
       before_gives

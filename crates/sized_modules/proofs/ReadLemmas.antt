@@ -9,19 +9,20 @@ use Rattle.type_grammar.specs.Levels.{levels}
 use Rattle.ir_text.specs.Units.{IsFormWithin, IsNumber, IsLeft, IsLast, IsUnitWithin}
 use Rattle.ir_text.specs.Reads.{ReadsTo}
 use Rattle.sized_modules.specs.Written.{types_in, AreWritten}
+use Rattle.sized_modules.proofs.PartLemmas.{anyhow}
 use Rattle.sized_modules.proofs.TypeLemmas.{IsWritten, type_gives}
 use Rattle.sized_modules.proofs.FormLemmas.{HasWritten, none, form_gives, number_gives}
 
 -- of a form, or of an entry of a summary
 form_written : (ts : List Piece) (unit : Form) → IsFormWithin ts unit → HasWritten unit
 unfolding IsFormWithin
-form_written ts unit (inl is) = (form_gives (type_gives levels)).each ts unit is
+form_written ts unit (inl is) = (form_gives (type_gives levels)).each ts unit (anyhow ts) is
 form_written ts unit (inr (number, lined, stands)) = rw stands (none refl)
 
 -- of the number of a pointer, or of what is left out
 last_written : (ts : List Piece) (unit : Form) → IsLast ts unit → HasWritten unit
 unfolding IsNumber IsLeft
-last_written ts unit (inl is) = number_gives.each ts unit is
+last_written ts unit (inl is) = number_gives.each ts unit (anyhow ts) is
 last_written ts unit (inr ((word, lined, stands), other)) = rw stands (none refl)
 
 unit_written : (ts : List Piece) (unit : TheUnit) → IsUnitWithin ts unit → HasWritten unit.form

@@ -30,5 +30,5 @@ clean_files_can_run file text us read clean = record {
     files = omega arith;
     modules = one IsCounted (module_of false us file) (clean_are_counted us file clean);
   };
-  laid = one IsLaid (module_of false us file) (clean_are_laid us file (read_are_written file text us read) clean);
+  laid = one IsLaid (module_of false us file) (clean_are_laid false us file (read_are_written file text us read) clean);
 }

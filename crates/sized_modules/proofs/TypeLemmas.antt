@@ -16,7 +16,7 @@ use Rattle.type_grammar.specs.Names.{Name, a_type, Value}
 use Rattle.type_grammar.specs.Types.{integer_of, pointer_of, array_with, integer, void, pointer, named, length, array, type_list, structure, left_type, vector, packed, value_type_body, type_body}
 use Rattle.type_grammar.specs.Levels.{IsAt}
 use Rattle.sized_modules.specs.Written.{pair_step, has_pair}
-use Rattle.sized_modules.proofs.PartLemmas.{Gives, cond_has, token_gives, skip_gives, second_gives, always_gives, says_gives, before_gives, or_gives, list_gives}
+use Rattle.sized_modules.proofs.PartLemmas.{Gives, Anything, cond_has, token_gives, skip_gives, second_gives, always_gives, says_gives, before_gives, or_gives, list_gives}
 
 -- the type holds no pair
 abbrev pub IsWritten : Ty → Type 0
@@ -68,20 +68,20 @@ array_or_left text (Some count) part written = array_written count part written
 array_or_left text None part written = left_written text
 
 -- where the types in a type hold none, it holds none
-body_gives : {E : (x : Name) → Text (Value x)} → Gives E (at a_type) IsWritten → Gives E type_body IsWritten
+body_gives : {E : (x : Name) → Text (Value x)} → Gives Anything E (at a_type) IsWritten → Gives Anything E type_body IsWritten
 unfolding integer void pointer named length array type_list structure left_type vector packed value_type_body type_body
 body_gives parts =
     or_gives (always_gives (λ ts a. void_written))
-    (or_gives (token_gives (λ t. integer_written t.bytes))
+    (or_gives (token_gives (λ t so. integer_written t.bytes))
     (or_gives (always_gives pointer_or_left)
-    (or_gives (token_gives (λ t. named_written (name Local t)))
+    (or_gives (token_gives (λ t so. named_written (name Local t)))
     (or_gives (says_gives (λ x. IsWritten x.1) (skip_gives (second_gives (skip_gives (before_gives parts)))) (λ ts x has. array_or_left (spelling ts) x.0 x.1 has))
     (or_gives (says_gives (All IsWritten) (skip_gives (before_gives (list_gives parts))) (λ ts types has. struct_written types has))
-    (or_gives (token_gives (λ t. left_written t.bytes))
+    (or_gives (token_gives (λ t so. left_written t.bytes))
     (or_gives (always_gives (λ ts text. left_written text))
     (always_gives (λ ts text. left_written text)))))))))
 
 -- at each number of levels
-pub type_gives : (n : ℕ) → Gives (IsAt n) (at a_type) IsWritten
-type_gives zero = record { each = λ ts type is. absurd is }
+pub type_gives : (n : ℕ) → Gives Anything (IsAt n) (at a_type) IsWritten
+type_gives zero = record { each = λ ts type so is. absurd is }
 type_gives (suc n) = record { each = (body_gives (type_gives n)).each }

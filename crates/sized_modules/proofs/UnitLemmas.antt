@@ -37,50 +37,51 @@ Units = List (Placed TheUnit)
 abbrev pub IsOuter : Form → Type 0
 IsOuter form = (spot : Spot) → is_misplaced_inside spot (sort_of form) ≡ true
 
--- such a unit without a flaw, wherever it stands, has none as an item
-outer_item : (us : Units) (at : ℕ) (form : Form) → IsOuter form → (place : Standing) → flaw_at false us at place form ≡ None
-    → item_flaw false us at form ≡ None
-unfolding place_flaw
-outer_item us at form outer Outside none =
-    none_second (unclosed us at form) (item_flaw false us at form)
-    (none_second (outside_flaw form) (unclosed us at form then item_flaw false us at form) none)
-outer_item us at form outer (Inside spot) none =
-    let placed = none_first (place_flaw us spot.head at spot form) (instruction_flaw false us spot.head at spot form) none in
-    let structure = none_first (structure_flaw us spot.head at spot form) (own_flaw us spot.head at spot form then limit_flaw spot form) placed in
-    let other = is_to_entry us spot.head form || is_torn us spot.head at spot form in
-    let unplaced = unbroken (is_misplaced_inside spot (sort_of form) || other) E03 structure in
-    clash (is_misplaced_inside spot (sort_of form)) (outer spot) (neither_first (is_misplaced_inside spot (sort_of form)) other unplaced)
-
--- in a file without flaws such a unit has none as an item
-pub clean_item : (us : Units) (at : ℕ) (u : Placed TheUnit) (form : Form) → IsClean false us → slice_get us at ≡ Some u
-    → u.value.form ≡ form → IsOuter form → item_flaw false us at form ≡ None
-unfolding unit_flaw
-clean_item us at u form clean here is outer =
-    outer_item us at form outer (standing us at)
-    (ap (flaw_at false us at (standing us at)) (sym is) ∙ clean at u (slice_get_within us at u here) here)
-
--- nor has the type of a type unit
-pub clean_type : (us : Units) (at : ℕ) (name : List ℕ) (ty : Ty) → item_flaw false us at (TypeForm name (Some ty)) ≡ None
-    → type_flaw false us false Every ty ≡ None
-unfolding item_flaw
-clean_type us at name ty none = none_second (definition_flaw false us at Types name) (type_flaw false us false Every ty) none
-
--- nor the type of a variable
-pub clean_variable : (us : Units) (at : ℕ) (name : List ℕ) (linkage : Option (List ℕ)) (constant : Bool) (ty : Ty) (init : Option Const)
-    (align : Option (Option ℕ)) (attached : List Attach)
-    → item_flaw false us at (VariableForm name linkage constant ty init align attached) ≡ None → type_flaw false us false NonVoid ty ≡ None
-unfolding item_flaw
-clean_variable us at name linkage constant ty init align attached none =
-    let form = VariableForm name linkage constant ty init align attached in
-    let counts = counts_before us at in
-    let own = variable_flaw false us at name linkage ty init align attached in
-    let behind = limits_flaw us at counts form in
-    let of_own : own ≡ None = none_first own behind (none_second (variables_flaw counts) (own then behind) none) in
-    let held = held_flaw false us linkage ty init in
-    let rest = align_flaw align then own_attached_flaw false us ty init attached in
-    let of_held : held ≡ None = none_first held rest (none_second (named_flaw false us at name linkage) (held then rest) of_own) in
-    none_first (type_flaw false us false NonVoid ty) (bare_flaw linkage init then init_flaw false us ty init) of_held
-
 -- what holds of each item of a list holds of the one at a place
 pub all_at : {X : Type 0} (P : X → Type 0) (xs : List X) (at : ℕ) (x : X) → All P xs → slice_get xs at ≡ Some x → P x
 all_at P xs at x all is = subst P (get_or_from_slice_get xs at x x is) (all at x (slice_get_within xs at x is))
+
+module _ (output : Bool) where
+  -- such a unit without a flaw, wherever it stands, has none as an item
+  outer_item : (us : Units) (at : ℕ) (form : Form) → IsOuter form → (place : Standing) → flaw_at output us at place form ≡ None
+      → item_flaw output us at form ≡ None
+  unfolding place_flaw
+  outer_item us at form outer Outside none =
+      none_second (unclosed us at form) (item_flaw output us at form)
+      (none_second (outside_flaw form) (unclosed us at form then item_flaw output us at form) none)
+  outer_item us at form outer (Inside spot) none =
+      let placed = none_first (place_flaw us spot.head at spot form) (instruction_flaw output us spot.head at spot form) none in
+      let structure = none_first (structure_flaw us spot.head at spot form) (own_flaw us spot.head at spot form then limit_flaw spot form) placed in
+      let other = is_to_entry us spot.head form || is_torn us spot.head at spot form in
+      let unplaced = unbroken (is_misplaced_inside spot (sort_of form) || other) E03 structure in
+      clash (is_misplaced_inside spot (sort_of form)) (outer spot) (neither_first (is_misplaced_inside spot (sort_of form)) other unplaced)
+
+  -- in a file without flaws such a unit has none as an item
+  pub clean_item : (us : Units) (at : ℕ) (u : Placed TheUnit) (form : Form) → IsClean output us → slice_get us at ≡ Some u
+      → u.value.form ≡ form → IsOuter form → item_flaw output us at form ≡ None
+  unfolding unit_flaw
+  clean_item us at u form clean here is outer =
+      outer_item us at form outer (standing us at)
+      (ap (flaw_at output us at (standing us at)) (sym is) ∙ clean at u (slice_get_within us at u here) here)
+
+  -- nor has the type of a type unit
+  pub clean_type : (us : Units) (at : ℕ) (name : List ℕ) (ty : Ty) → item_flaw output us at (TypeForm name (Some ty)) ≡ None
+      → type_flaw output us false Every ty ≡ None
+  unfolding item_flaw
+  clean_type us at name ty none = none_second (definition_flaw output us at Types name) (type_flaw output us false Every ty) none
+
+  -- nor the type of a variable
+  pub clean_variable : (us : Units) (at : ℕ) (name : List ℕ) (linkage : Option (List ℕ)) (constant : Bool) (ty : Ty) (init : Option Const)
+      (align : Option (Option ℕ)) (attached : List Attach)
+      → item_flaw output us at (VariableForm name linkage constant ty init align attached) ≡ None → type_flaw output us false NonVoid ty ≡ None
+  unfolding item_flaw
+  clean_variable us at name linkage constant ty init align attached none =
+      let form = VariableForm name linkage constant ty init align attached in
+      let counts = counts_before us at in
+      let own = variable_flaw output us at name linkage ty init align attached in
+      let behind = limits_flaw us at counts form in
+      let of_own : own ≡ None = none_first own behind (none_second (variables_flaw counts) (own then behind) none) in
+      let held = held_flaw output us linkage ty init in
+      let rest = align_flaw align then own_attached_flaw output us ty init attached in
+      let of_held : held ≡ None = none_first held rest (none_second (named_flaw output us at name linkage) (held then rest) of_own) in
+      none_first (type_flaw output us false NonVoid ty) (bare_flaw linkage init then init_flaw output us ty init) of_held
