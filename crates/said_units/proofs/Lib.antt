@@ -1,0 +1,11 @@
+pub mod DecimalLemmas
+pub mod TokenLemmas
+pub mod NumberLemmas
+pub mod TypeLemmas
+pub mod ConstLemmas
+pub mod OperandLemmas
+pub mod CallLemmas
+pub mod InstLemmas
+pub mod HeadLemmas
+pub mod FormLemmas
+pub mod ReadLaws
