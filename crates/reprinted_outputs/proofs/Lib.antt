@@ -3,3 +3,4 @@ pub mod NameLemmas
 pub mod VariableLemmas
 pub mod FunctionLemmas
 pub mod OutputLaws
+pub mod ReadOutputs

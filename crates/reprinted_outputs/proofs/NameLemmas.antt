@@ -1,11 +1,10 @@
 -- The names of an output: those of its functions and registers, and those of its combined variables.
-use Rattle.std.proofs.Common.{◌≡◌, ◌≢◌, refl, sym, ap, subst, inl, inr, arith, ℕ, zero, suc, ◌+◌, ◌/◌, ◌%◌, ◌^◌, ◌<◌, ◌≤◌, Bool, true, false, not, ◌&&◌, ◌||◌, ◌==◌, nat_lt, List, [], ◌∷◌, ◌++◌, length, map, drop, decimal, bytes_eq, IsTrue}
+use Rattle.std.proofs.Common.{◌≡◌, ◌≢◌, refl, sym, ap, subst, inl, inr, arith, ℕ, ◌+◌, ◌^◌, ◌<◌, ◌≤◌, Bool, true, false, not, ◌&&◌, ◌||◌, List, [], ◌∷◌, ◌++◌, length, map, drop, bytes_eq, IsTrue}
 use Rattle.std.specs.List.{list_all, list_any, AllByRecursion}
 use Rattle.std.specs.Char.{is_ascii_digit}
-use Rattle.std.specs.Fmt.{digits, digits_onto, digit_glyph}
+use Rattle.std.specs.Fmt.{digits}
 use Rattle.std.proofs.lemmas.Bool.Decides.{nat_tests}
 use Rattle.std.proofs.lemmas.Fmt.{decimal_injective}
-use Rattle.ir_lex.proofs.CaseSplits.{test}
 use Rattle.ir_print.specs.Names.{is_decimal, is_digit}
 use Rattle.check_names.specs.Reserved.{is_made, is_intrinsic}
 use Rattle.thin_files.specs.declared.thin.Variable.{Variable}
@@ -14,6 +13,7 @@ use Rattle.test_lowering.specs.Rewriting.{combined_from, group_name}
 use Rattle.test_lowering.proofs.PlaceLaws.{text_cases}
 use Rattle.printed_units.specs.Written.{IsBytes, IsName}
 use Rattle.printed_modules.specs.Printed.{AreApart}
+use Rattle.said_units.proofs.DecimalLemmas.{decimal_bytes}
 
 -- names of functions and registers
 
@@ -41,19 +41,6 @@ pub no_intrinsic : (name : List ℕ) → IsFree name → is_intrinsic name ≡ f
 no_intrinsic name free = (free_parts (is_made name) (is_intrinsic name) (list_all is_ascii_digit name) free).0
 
 -- names of combined variables
-
-glyph_small : (n : ℕ) → n < 10 → nat_lt (digit_glyph false n) 256 ≡ true
-glyph_small n small = grind (arith, nat_tests)
-
-onto_bytes : (k n : ℕ) (bytes : List ℕ) → IsBytes bytes → IsBytes (digits_onto k 10 false n bytes)
-onto_bytes zero n bytes are = are
-onto_bytes (suc k) n bytes are =
-    let more : IsBytes (digit_glyph false (n % 10) ∷ bytes) = (let one = glyph_small (n % 10) (omega arith) in cc) in
-    test (n / 10 == 0) (λ t. rw t more) (λ t. rw t (onto_bytes k (n / 10) (digit_glyph false (n % 10) ∷ bytes) more))
-
-decimal_bytes : (n : ℕ) → IsBytes (decimal n)
-unfolding digits
-decimal_bytes n = onto_bytes 64 n [] refl
 
 pub group_is_name : (group : ℕ) → IsName (group_name group)
 unfolding is_decimal is_digit

@@ -1,7 +1,6 @@
 -- The combined variables of an output are as printed ones.
-use Rattle.std.proofs.Common.{◌≡◌, refl, sym, subst, arith, ℕ, zero, suc, ◌+◌, ◌-◌, ◌*◌, ◌/◌, ◌^◌, ◌<◌, ◌≤◌, max, Bool, true, false, cond, ◌&&◌, nat_le, if◌then◌else◌, List, [], ◌∷◌, map, Option, Some, None}
+use Rattle.std.proofs.Common.{◌≡◌, refl, sym, subst, arith, ℕ, zero, suc, ◌+◌, ◌*◌, ◌/◌, ◌^◌, ◌<◌, ◌≤◌, Bool, true, false, nat_le, if◌then◌else◌, List, [], ◌∷◌, map, Some}
 use Rattle.std.specs.List.{AllByRecursion}
-use Rattle.std.specs.Int.{next_multiple_of}
 use Rattle.std.proofs.lemmas.Bool.Decides.{nat_tests}
 use Rattle.std.proofs.lemmas.List.Elements.{All-head, All-tail}
 use Rattle.ir_values.specs.declared.types.Width.{Width}
@@ -13,9 +12,7 @@ use Rattle.ir_values.specs.declared.constants.Const.TheVariants as const
 use Rattle.ir_values.specs.declared.constants.Const.TheVariants.{outs-Zero}
 use Rattle.ir_values.specs.declared.modules.Linkage.TheVariants.{Private}
 use Rattle.ir_values.specs.declared.modules.Var.{Var}
-use Rattle.ir_values.specs.Layout.{width_bytes}
 use Rattle.type_grammar.specs.Levels.{levels}
-use Rattle.check_types.specs.Measures.{Measure, within, single, array_measure, option_with_part, parts_measure, struct_measure, measure, align_in, align}
 use Rattle.thin_files.specs.declared.thin.Variable.{Variable}
 use Rattle.thin_files.specs.Thin.{HaveCounts, variable_of, words_type}
 use Rattle.test_lowering.specs.Rewriting.{power_above, pad, gap_of, gap_types, combined, combined_from, group_name, no_place}
@@ -23,7 +20,7 @@ use Rattle.test_lowering.proofs.RewritingLaws.{gap-variable, combined-variable}
 use Rattle.printed_units.specs.Written.{IsTyWithin, IsTy, IsInit, IsVar}
 use Rattle.printed_modules.specs.Printed.{IsKeptInit, IsKeptVar}
 use Rattle.printed_units.proofs.WrittenLemmas.{int_within}
-use Rattle.printed_modules.proofs.TypeKept.{measure_opened}
+use Rattle.printed_modules.proofs.AlignLemmas.{ty_low}
 use Rattle.reprinted_outputs.proofs.NameLemmas.{group_is_name}
 
 -- the bytes behind an object are few
@@ -69,55 +66,6 @@ slot_kept : (count gap : ℕ) → IsKeptInit (Some (const.Zero (slot_type count 
 unfolding levels
 slot_kept count gap = rw (outs-Zero (slot_type count gap)) tt
 
--- its alignment
-
-abbrev IsLow : Option Measure → Type 0
-IsLow taken = align_in taken ≤ 8
-
-low_within : (count size align : ℕ) → align ≤ 8 → IsLow (within count size align)
-low_within count size align low = by_limits (nat_le count 4096 && nat_le size (2 ^ 24)) where
-  by_limits : (fits : Bool) → IsLow (cond fits (Some (record { count = count; size = size; align = align })) None)
-  by_limits true = low
-  by_limits false = omega arith
-
-low_array : (count : ℕ) (part : Option Measure) → IsLow part → IsLow (array_measure count part)
-low_array count None low = low
-low_array count (Some part) low = low_within (part.count + 1) (count * part.size) part.align low
-
-low_part : (before part : Option Measure) → IsLow before → IsLow part → IsLow (option_with_part before part)
-low_part None part low other = low
-low_part (Some before) None low other = other
-low_part (Some before) (Some part) low other =
-    low_within (before.count + part.count) (next_multiple_of before.size part.align + part.size) (max before.align part.align)
-    (omega (arith, low, other))
-
-low_parts : (before : Option Measure) (parts : List (Option Measure)) → IsLow before → AllByRecursion IsLow parts
-    → IsLow (parts_measure before parts)
-unfolding parts_measure
-low_parts before [] low are = low
-low_parts before (part ∷ parts) low are = low_parts (option_with_part before part) parts (low_part before part low are.0) are.1
-
-low_struct : (parts : Option Measure) → IsLow parts → IsLow (struct_measure parts)
-low_struct None low = low
-low_struct (Some parts) low = low_within parts.count (next_multiple_of parts.size parts.align) parts.align low
-
-low_words : (count : ℕ) (width : Width) → width_bytes width ≤ 8 → IsLow (measure [] (ty.Array count (ty.Int width)))
-low_words count width low =
-    let part = ty.Int width in
-    rw (measure_opened [] (ty.Array count part), outs-Array count part, measure_opened [] part, outs-Int width)
-    (low_array count (single (width_bytes width) (width_bytes width)) low)
-
-low_gap : (gap : ℕ) → AllByRecursion IsLow (map (measure []) (gap_types gap))
-low_gap zero = tt
-low_gap (suc gap) = (low_words (suc gap) W8 (omega arith), tt)
-
-slot_low : (count gap : ℕ) → align [] (slot_type count gap) ≤ 8
-slot_low count gap =
-    let parts = words_type count ∷ gap_types gap in
-    rw (measure_opened [] (slot_type count gap), outs-Struct parts)
-    (low_struct (parts_measure (single 0 1) (map (measure []) parts))
-    (low_parts (single 0 1) (map (measure []) parts) (omega arith) (low_words count W64 (omega arith), low_gap gap)))
-
 -- a combined variable
 
 abbrev slot : ℕ → ℕ → ℕ → Var
@@ -141,11 +89,11 @@ slot_written group count gap few small = record {
   align = omega arith;
 }
 
-slot_kept_var : (group count gap : ℕ) → IsKeptVar (slot group count gap)
-slot_kept_var group count gap = record {
+slot_kept_var : (group count gap : ℕ) → count < 2 ^ 64 → gap < 2 ^ 64 → IsKeptVar (slot group count gap)
+slot_kept_var group count gap few small = record {
   linkage = refl;
   init = slot_kept count gap;
-  align = slot_low count gap;
+  align = ty_low [] levels (slot_type count gap) (slot_is_type count gap few small);
   entries = refl;
   visibility = refl;
 }
@@ -157,9 +105,10 @@ pub record IsMadeVar (v : Var) : Type 0 where
 made_var : (group : ℕ) (v : Variable) → v.count ≤ 1000 → IsMadeVar (combined group (variable_of v))
 made_var group v few =
     let gap = gap_of (variable_of v) in
+    let less : v.count < 2 ^ 64 = omega (arith, few) in
     subst IsMadeVar (sym (combined-variable group v)) (record {
-      written = slot_written group v.count gap (omega (arith, few)) (gap_small v few);
-      kept = slot_kept_var group v.count gap;
+      written = slot_written group v.count gap less (gap_small v few);
+      kept = slot_kept_var group v.count gap less (gap_small v few);
     })
 
 pub made_vars : (group : ℕ) (vs : List Variable) → HaveCounts vs → AllByRecursion IsMadeVar (combined_from group (map variable_of vs))

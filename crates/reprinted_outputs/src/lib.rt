@@ -3,4 +3,6 @@
 
 mod laws;
 
-pub use laws::{example_has_output, outputs_are_printed, outputs_are_same_again};
+pub use laws::{
+    example_has_output, outputs_are_printed, outputs_are_same_again, read_outputs_are_same_again,
+};
