@@ -1,0 +1,5 @@
+use Rattle.clean_outputs.proofs.OutputLaws.{outputs_without_named_types_are_shallow}
+use Rattle.clean_outputs.proofs.laws.outputs_without_named_types_are_shallow.Goals as goal
+
+pub returns : goal.returns
+returns c = outputs_without_named_types_are_shallow
