@@ -118,6 +118,17 @@ define void @main() {
 }
 ";
 
+/// A variable whose type has 67 levels once its name is replaced, three more than a text may write.
+const DEEP_TYPE: &str = "\
+%A = type [1 x [1 x [1 x [1 x [1 x [1 x [1 x [1 x [1 x [1 x [1 x [1 x [1 x [1 x [1 x [1 x [1 x [1 x [1 x [1 x [1 x [1 x [1 x [1 x [1 x [1 x [1 x [1 x [1 x [1 x [1 x [1 x [1 x i8]]]]]]]]]]]]]]]]]]]]]]]]]]]]]]]]]
+@v = external global [1 x [1 x [1 x [1 x [1 x [1 x [1 x [1 x [1 x [1 x [1 x [1 x [1 x [1 x [1 x [1 x [1 x [1 x [1 x [1 x [1 x [1 x [1 x [1 x [1 x [1 x [1 x [1 x [1 x [1 x [1 x [1 x [1 x %A]]]]]]]]]]]]]]]]]]]]]]]]]]]]]]]]]
+";
+
+/// The same, as it is printed.
+const DEEP_TYPE_WRITTEN: &str = "\
+@v = external global [1 x [1 x [1 x [1 x [1 x [1 x [1 x [1 x [1 x [1 x [1 x [1 x [1 x [1 x [1 x [1 x [1 x [1 x [1 x [1 x [1 x [1 x [1 x [1 x [1 x [1 x [1 x [1 x [1 x [1 x [1 x [1 x [1 x [1 x [1 x [1 x [1 x [1 x [1 x [1 x [1 x [1 x [1 x [1 x [1 x [1 x [1 x [1 x [1 x [1 x [1 x [1 x [1 x [1 x [1 x [1 x [1 x [1 x [1 x [1 x [1 x [1 x [1 x [1 x [1 x [1 x i8]]]]]]]]]]]]]]]]]]]]]]]]]]]]]]]]]]]]]]]]]]]]]]]]]]]]]]]]]]]]]]]]]], align 1
+";
+
 #[test]
 fn a_file_runs_so_many_steps(rt: HostRuntime) {
     for (text, given, status, told, line) in [
@@ -191,6 +202,8 @@ fn an_output_is_written_again(rt: HostRuntime) {
     for (text, status, written, line) in [
         (THREE_MEMBERS_LOWERED, 0, THREE_MEMBERS_LOWERED, ""),
         (THREE_MEMBERS, 1, "", "ltt: E07 a.ll:1:1: !type\n"),
+        (DEEP_TYPE, 0, DEEP_TYPE_WRITTEN, ""),
+        (DEEP_TYPE_WRITTEN, 6, "", "ltt: E12 a.ll:1:1: nesting\n"),
     ] {
         assert!(rt;
             tells(rt.alloc(), &words, text, status, written, line),
