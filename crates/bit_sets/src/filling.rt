@@ -11,14 +11,14 @@ use std::alloc::Global;
 pub const MOST_BYTES: u64 = 16_777_216;
 
 // A byte array that has its place: the set's number, and where its bits are.
-#[derive(Debug, Clone, Copy)]
+#[derive(Clone, Copy)]
 pub struct Stood {
     pub number: usize,
     pub spot: Spot,
 }
 
 // Eight lanes with the arrays that have their places, the first placed first.
-#[derive(Debug, Drop)]
+#[derive(Drop)]
 pub struct Filling {
     pub lengths: List<u64>,
     pub stood: List<Stood>,

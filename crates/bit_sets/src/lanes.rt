@@ -11,14 +11,14 @@ use std::alloc::Global;
 /// Where the bits of a byte array stand: bit i is the mask's bit of byte `start + i`.
 ///
 /// Source: Control Flow Integrity Design, on byte arrays; LLVM's `ByteArrayBuilder`.
-#[derive(Debug, Clone, Copy, PartialEq, Eq)]
+#[derive(Clone, Copy, PartialEq, Eq)]
 pub struct Spot {
     pub start: u64,
     pub mask: u8,
 }
 
 /// The bytes in which all byte arrays stand, and the spot of each set: none where it is no byte array.
-#[derive(Debug, Drop)]
+#[derive(Drop)]
 pub struct Lanes {
     pub bytes: List<u8>,
     pub spots: List<Option<Spot>>,

@@ -7,8 +7,6 @@ mod lanes;
 mod laws;
 mod rotation;
 mod set;
-#[cfg(test)]
-mod tests;
 
 pub use lanes::{Lanes, Spot};
 pub use laws::{kinds_are_met, lanes_hold, tests_are_exact};

@@ -8,7 +8,7 @@ use std::alloc::Global;
 /// How a test of membership is written.
 ///
 /// Source: LLVM's `TypeTestResolution`, whose words these are.
-#[derive(Debug, Clone, Copy, PartialEq, Eq)]
+#[derive(Clone, Copy, PartialEq, Eq)]
 pub enum Kind {
     /// No member: the test is false.
     Unsat,
@@ -30,7 +30,7 @@ pub enum Kind {
 ///
 /// Source: Control Flow Integrity Design, "Stripping Leading/Trailing Zeros in Bit Vectors" and
 /// "Alignment"; LLVM's `BitSetInfo`. Differs: bits in words, where LLVM keeps a set of indices.
-#[derive(Debug, Drop)]
+#[derive(Drop)]
 pub struct BitSet {
     pub kind: Kind,
     pub min: u64,

@@ -1,2 +1,2 @@
-mod SortLaws
+pub mod SortLaws
 mod RegisterLaws

@@ -21,7 +21,7 @@ use Rattle.check_bodies.specs.Standing.{is_begun, is_named, opened}
 use Rattle.check_bodies.specs.Names.{implied_label, names_at}
 use Rattle.check_constants.specs.declared.intrinsics.Intrinsic.{Intrinsic}
 use Rattle.check_constants.specs.declared.intrinsics.Intrinsic.TheVariants.{Test, CheckedLoad, Assume, Trap, CodedTrap, Rotate}
-use Rattle.check_calls.specs.Callees.{called, called_intrinsic}
+use Rattle.kept_parts.specs.Called.{called, called_intrinsic}
 use Rattle.built_instructions.specs.Branches.{branch_kept, end_kept}
 use Rattle.built_instructions.specs.Calls.{result_name, plain_call, intrinsic_call, call_of, call_kept}
 use Rattle.built_instructions.specs.Instructions.{form_kept, instruction_of}

@@ -13,8 +13,8 @@ use Rattle.ir_values.specs.declared.units.Unit as unit
 use Rattle.ir_values.specs.declared.units.Arg.{Arg}
 use Rattle.ir_values.specs.declared.units.Arg.TheVariants.{Value, Word, Node}
 use Rattle.check_types.specs.Replaced.{replaced}
-use Rattle.check_items.specs.Entries.{node_number}
-use Rattle.check_calls.specs.Calls.{argument_kept}
+use Rattle.kept_parts.specs.NodeNumbers.{node_number}
+use Rattle.kept_parts.specs.ArgumentValues.{argument_kept}
 use Rattle.built_instructions.specs.Values.{number_in}
 
 -- the values among the arguments

@@ -16,7 +16,7 @@ use Rattle.ir_values.specs.declared.units.EndText.TheVariants as end
 use Rattle.check_types.specs.Replaced.{replaced}
 use Rattle.check_operands.specs.Made.{bit}
 use Rattle.check_operands.specs.Operands.{operand_kept}
-use Rattle.check_instructions.specs.Cases.{Case, case_number}
+use Rattle.kept_parts.specs.CaseNumbers.{Case, case_number}
 use Rattle.built_instructions.specs.Values.{width_at, number_or}
 
 -- the number and the label of a case of a switch on integers of a width

@@ -18,7 +18,7 @@ use Rattle.check_types.specs.Replaced.{replaced}
 use Rattle.check_constants.specs.declared.intrinsics.Intrinsic.{Intrinsic}
 use Rattle.check_constants.specs.declared.intrinsics.Intrinsic.TheVariants.{Test, CheckedLoad, Assume, Trap, CodedTrap, Rotate}
 use Rattle.check_operands.specs.Operands.{operand_kept}
-use Rattle.check_calls.specs.Callees.{called, called_intrinsic}
+use Rattle.kept_parts.specs.Called.{called, called_intrinsic}
 use Rattle.built_instructions.specs.Values.{byte_of, offset_of}
 use Rattle.built_instructions.specs.Arguments.{values_kept, types_kept, value_at, number_at, id_at}
 

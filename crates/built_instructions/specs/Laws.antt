@@ -18,7 +18,7 @@ use Rattle.check_bodies.specs.Standing.{is_named}
 use Rattle.check_bodies.specs.Names.{is_label, names_at}
 use Rattle.check_constants.specs.declared.intrinsics.Intrinsic.{Intrinsic}
 use Rattle.check_constants.specs.declared.intrinsics.Intrinsic.TheVariants.{Test, CheckedLoad, Rotate}
-use Rattle.check_calls.specs.Callees.{called, called_intrinsic}
+use Rattle.kept_parts.specs.Called.{called, called_intrinsic}
 use Rattle.built_instructions.specs.Instructions.{instruction_of}
 
 -- what an instruction is in its block
@@ -52,6 +52,7 @@ register_of (inst.Call dst fty callee args) = dst
 register_of (inst.Extract dst pair part) = Some dst
 register_of (inst.Phi dst ty arms) = Some dst
 register_of (inst.Test dst ptr id) = Some dst
+register_of (inst.PublicTest dst ptr id) = Some dst
 register_of (inst.CheckedLoad dst ptr offset id) = Some dst
 register_of (inst.Number dst ptr) = Some dst
 register_of (inst.Rotate dst value by) = Some dst

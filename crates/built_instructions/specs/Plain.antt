@@ -19,7 +19,7 @@ use Rattle.ir_values.specs.declared.units.Unit as unit
 use Rattle.check_bodies.specs.Numbers.{name_or}
 use Rattle.check_types.specs.Replaced.{replaced}
 use Rattle.check_operands.specs.Operands.{operand_kept}
-use Rattle.check_instructions.specs.Phis.{Arm, kept_arms}
+use Rattle.kept_parts.specs.Arms.{Arm, kept_arms}
 use Rattle.built_instructions.specs.Values.{width_at, number_or, byte_of}
 
 abbrev pub binary_kept : List (Placed unit.Unit) → ℕ → Option (List ℕ) → BinOp → Ty → Operand → Operand → Inst

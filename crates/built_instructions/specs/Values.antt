@@ -10,9 +10,9 @@ use Rattle.ir_values.specs.declared.constants.Const.TheOpen.{Const-F}
 use Rattle.ir_values.specs.declared.constants.Operand.{Operand}
 use Rattle.ir_values.specs.declared.constants.Operand.TheVariants as operand
 use Rattle.ir_values.specs.declared.units.Unit as unit
-use Rattle.ir_values.specs.Numbers.{signed}
+use Rattle.ir_numbers.specs.Numbers.{signed}
 use Rattle.check_types.specs.Heads.{head}
-use Rattle.check_instructions.specs.Plain.{width_of}
+use Rattle.kept_parts.specs.Widths.{width_of}
 
 abbrev pub width_or : Option Width → Width
 width_or None = W64

@@ -5,10 +5,9 @@ ghost use Rattle.std.specs.Option.{option_copied};
 ghost use Rattle.built_instructions.specs.Arguments as spec;
 
 use crate::values::number_in;
-use check_calls::argument_kept;
-use check_items::node_number;
 use check_types::{Types, replaced};
 use ir_values::{Arg, Const, Operand, Ty, TypeId};
+use kept_parts::{argument_kept, node_number};
 use ltt_base::{List, Memory, Text};
 use std::alloc::Global;
 

@@ -3,10 +3,10 @@ ghost use Rattle.std.specs.Prelude.{◌≡◌, IfOk};
 ghost use Rattle.built_instructions.specs.Branches as spec;
 
 use crate::values::{number_or, width_at};
-use check_instructions::case_number;
 use check_operands::{Made, operand_kept};
 use check_types::{Types, replaced};
 use ir_values::{BranchText, Const, EndText, Inst, Operand, Ty, Width};
+use kept_parts::case_number;
 use ltt_base::{List, Memory, Text};
 use std::alloc::Global;
 

@@ -7,11 +7,11 @@ ghost use Rattle.built_instructions.specs.Calls as spec;
 use crate::arguments::{id_at, number_at, types_kept, value_at, values_kept};
 use crate::values::{byte_of, offset_of};
 use check_bodies::name_or;
-use check_calls::{called, called_intrinsic};
 use check_constants::Intrinsic;
 use check_operands::{Made, operand_kept};
 use check_types::{Types, replaced};
 use ir_values::{Arg, Callee, FuncTy, Head, Inst, Operand, Ty};
+use kept_parts::{called, called_intrinsic};
 use ltt_base::{List, Memory, Text};
 use std::alloc::Global;
 

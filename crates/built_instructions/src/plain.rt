@@ -5,10 +5,10 @@ ghost use Rattle.built_instructions.specs.Plain as spec;
 
 use crate::values::{byte_of, number_or, width_at};
 use check_bodies::name_or;
-use check_instructions::kept_arms;
 use check_operands::{Made, operand_kept};
 use check_types::{Types, replaced};
 use ir_values::{BinOp, CastOp, Inst, Operand, Pred, Ty, Width};
+use kept_parts::kept_arms;
 use ltt_base::{List, Memory, Text};
 use std::alloc::Global;
 

@@ -3,9 +3,9 @@ ghost use Rattle.std.specs.Prelude.{◌≡◌};
 ghost use Rattle.ir_values.specs.declared.constants.Const.{out-Const};
 ghost use Rattle.built_instructions.specs.Values as spec;
 
-use check_instructions::width_of;
 use check_types::{Types, head};
 use ir_values::{Const, Operand, Ty, Width};
+use kept_parts::width_of;
 
 fn width_or(width: Option<Width>) -> Width
     ensures { result ≡ spec.width_or width }

@@ -14,7 +14,7 @@ use ltt_base::{List, Memory, Placed};
 use std::alloc::Global;
 
 /// Blocks that are closed, and the mark and the instructions of the open one. Before the first instruction there are none.
-#[derive(Debug, Drop)]
+#[derive(Drop)]
 pub struct Run {
     pub blocks: List<Block>,
     pub mark: BlockMark,

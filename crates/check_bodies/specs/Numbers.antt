@@ -3,7 +3,7 @@
 -- numbers count to 2^32, since a name of that number or more is left out.
 use Rattle.std.specs.Prelude.{ℕ, ◌+◌, ◌-◌, ◌*◌, ◌^◌, nat_lt, cond, min, max, List, [], ◌∷◌, Option, Some, None}
 use Rattle.std.specs.Prelude.{decimal}
-use Rattle.ir_print.specs.Names.{is_decimal}
+use Rattle.ir_names.specs.Names.{is_decimal}
 use Rattle.ir_values.specs.declared.units.Param.{Param}
 
 -- the number at which the count ends

@@ -12,14 +12,14 @@ use std::alloc::Global;
 use std::collections::BTreeMap;
 
 /// A block of a body: the place of the unit that begins it, and the number that is its label where none is written.
-#[derive(Debug, Clone, Copy)]
+#[derive(Clone, Copy)]
 pub struct BlockMark {
     pub start: usize,
     pub number: u64,
 }
 
 /// That a block's end names a label.
-#[derive(Debug, Drop)]
+#[derive(Drop)]
 pub struct Edge {
     pub from: BlockMark,
     pub to: Text,

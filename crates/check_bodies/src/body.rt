@@ -19,7 +19,7 @@ use std::marker::Model;
 ///
 /// A look-up takes time that grows with the logarithm of the number of names. Contracts see the file's units and the
 /// place of the function's head among them.
-#[derive(Debug, Drop)]
+#[derive(Drop)]
 pub struct Body<'a> {
     units: &'a [Placed<Unit>],
     head: usize,

@@ -12,7 +12,7 @@ use std::alloc::Global;
 
 /// What a name in a body stands for: a parameter by its place in the head's list, a block by the place of the unit
 /// that begins it, or the result of the instruction at a place.
-#[derive(Debug, Clone, Copy)]
+#[derive(Clone, Copy)]
 pub enum Local {
     Parameter(usize),
     Block(usize),
@@ -20,14 +20,14 @@ pub enum Local {
 }
 
 /// A name of a body, and what it stands for.
-#[derive(Debug, Drop)]
+#[derive(Drop)]
 pub struct Defined {
     pub name: Text,
     pub local: Local,
 }
 
 /// Which names are looked up: all, labels alone, or values, which are parameters and results.
-#[derive(Debug, Clone, Copy)]
+#[derive(Clone, Copy)]
 pub enum Asked {
     Either,
     Labels,

@@ -1,11 +1,9 @@
-ghost use Rattle.std.specs.Prelude.{◌≡◌, ◌≤◌, decimal, IfOk};
-ghost use Rattle.std.specs.List.{list_all};
+ghost use Rattle.std.specs.Prelude.{◌≡◌, ◌≤◌, IfOk};
 ghost use Rattle.std.specs.Option.{option_copied};
-ghost use Rattle.ir_print.specs.Names as printed;
 ghost use Rattle.check_bodies.specs.Numbers as spec;
 
+use ir_names::{is_decimal, numeral};
 use ir_values::Param;
-use itoa::Buffer;
 use ltt_base::{Memory, Text};
 use std::alloc::Global;
 
@@ -19,30 +17,6 @@ pub(crate) fn up(n: u64) -> u64
     ensures small { result ≤ spec.most }
 {
     if n < MOST { n + 1 } else { MOST }
-}
-
-#[tactic(auto, unfolding(ir_print::specs::Names::is_digit))]
-fn is_digit(byte: u8) -> bool
-    ensures { result ≡ printed.is_digit byte }
-{
-    b'0' <= byte && byte <= b'9'
-}
-
-fn all_digits(name: &[u8]) -> bool
-    ensures { result ≡ list_all printed.is_digit name.now }
-{
-    name.iter().all(|byte| is_digit(*byte))
-}
-
-#[tactic(auto, unfolding(ir_print::specs::Names::is_decimal, ir_print::specs::Names::is_digit))]
-fn is_decimal(name: &[u8]) -> bool
-    ensures { result ≡ printed.is_decimal name.now }
-{
-    match name {
-        [] => false,
-        [digit] => is_digit(*digit),
-        [first, ..] => *first != b'0' && all_digits(name),
-    }
 }
 
 #[tactic(auto, unfolding(crate::specs::Numbers::most))]
@@ -96,13 +70,6 @@ pub fn behind_parameters(next: u64, params: &[Param]) -> u64
         next = behind_name(next, param.name.as_ref());
     }
     next
-}
-
-/// A number as its digits.
-pub fn numeral(alloc: Global, n: u64) -> Result<Text, Memory>
-    ensures { IfOk result (λ text. text ≡ decimal n) }
-{
-    Text::copy(alloc, Buffer::new().format(n).as_bytes())
 }
 
 /// A copy of a written name, or else the next number as its digits.

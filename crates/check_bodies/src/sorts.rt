@@ -8,7 +8,7 @@ use ltt_base::Text;
 
 /// What a unit is in a body: the head of a function's definition, a label, a close, a phi, another instruction that
 /// ends no block, one that ends its block, a unit that is left out, or a unit that stands in no body.
-#[derive(Debug, Clone, Copy)]
+#[derive(Clone, Copy)]
 pub enum Sort {
     Head,
     Label,

@@ -7,7 +7,7 @@ use ir_values::{Form, Param, Unit};
 use ltt_base::Placed;
 
 /// How far the block is at a spot: none has begun, it has its label alone, or it has an instruction.
-#[derive(Debug, Clone, Copy)]
+#[derive(Clone, Copy)]
 pub enum Stage {
     Between,
     Labelled,
@@ -20,7 +20,7 @@ pub enum Stage {
 /// block. `next` is the number that the next unnamed value or block takes, `number` the one that the block has as
 /// its label where none is written. `only_phis` and `count` speak of the block's instructions so far, `any` tells
 /// whether the body has one.
-#[derive(Debug, Clone, Copy)]
+#[derive(Clone, Copy)]
 pub struct Spot {
     pub head: usize,
     pub next: u64,
@@ -33,7 +33,7 @@ pub struct Spot {
 }
 
 /// Where a unit stands: outside all bodies, or in one.
-#[derive(Debug, Clone, Copy)]
+#[derive(Clone, Copy)]
 pub enum Standing {
     Outside,
     Inside(Spot),

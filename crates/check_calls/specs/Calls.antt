@@ -13,7 +13,6 @@ use Rattle.ir_values.specs.declared.constants.Operand.TheVariants as operand
 use Rattle.ir_values.specs.declared.units.Unit.{Unit}
 use Rattle.ir_values.specs.declared.units.Head.{Head}
 use Rattle.ir_values.specs.declared.units.Arg.{Arg}
-use Rattle.ir_values.specs.declared.units.Arg.TheVariants.{Value, Word, Node}
 use Rattle.ir_values.specs.Equality.{same_operand}
 use Rattle.check_names.specs.declared.flaws.Flaw.{Flaw}
 use Rattle.check_names.specs.Flaws.{◌then◌, each, when, worded_when}
@@ -23,8 +22,9 @@ use Rattle.check_types.specs.Heads.{head}
 use Rattle.check_types.specs.Written.{type_flaw, is_void_head}
 use Rattle.check_constants.specs.declared.intrinsics.Intrinsic.{Intrinsic}
 use Rattle.check_constants.specs.declared.intrinsics.Intrinsic.TheVariants.{CheckedLoad, Rotate}
-use Rattle.check_operands.specs.Operands.{operand_kept}
-use Rattle.check_calls.specs.Callees.{called, called_intrinsic, is_left_call, callee_flaw}
+use Rattle.kept_parts.specs.Called.{called, called_intrinsic}
+use Rattle.kept_parts.specs.ArgumentValues.{argument_kept}
+use Rattle.check_calls.specs.Callees.{is_left_call, callee_flaw}
 use Rattle.check_calls.specs.Arguments.{arguments_from}
 use Rattle.check_calls.specs.Fitting.{is_misfit, is_mistyped}
 
@@ -51,12 +51,6 @@ is_shift_layer _ = false
 abbrev pub is_shift : Operand → Bool
 is_shift (operand.Reg name) = false
 is_shift (operand.Const constant) = is_shift_layer (out-Const constant)
-
--- an argument's value as a module keeps it; metadata has none
-abbrev pub argument_kept : List (Placed Unit) → Arg → Option Operand
-argument_kept us (Value ty left value) = Some (operand_kept us ty value)
-argument_kept us (Word text) = None
-argument_kept us (Node name) = None
 
 abbrev pub are_rotated : Option Operand → Option Operand → Option Operand → Bool
 are_rotated (Some one) (Some other) (Some by) = same_operand one other && is_shift by

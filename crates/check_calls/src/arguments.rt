@@ -16,7 +16,7 @@ use std::alloc::Global;
 
 /// What an argument is to the function that is called: the identifier of a type test or a checked load, the offset of a checked load, the
 /// code of a trap, or none of these.
-#[derive(Debug, Clone, Copy)]
+#[derive(Clone, Copy)]
 pub enum Role {
     Plain,
     Identifier,

@@ -9,14 +9,15 @@ ghost use Rattle.check_types.specs.Written as written_spec;
 ghost use Rattle.check_calls.specs.Calls as spec;
 
 use crate::arguments::arguments_flaw;
-use crate::callees::{called, called_intrinsic, callee_flaw, is_left_call};
+use crate::callees::{callee_flaw, is_left_call};
 use crate::fitting::{is_misfit, is_mistyped};
 use check_bodies::Body;
 use check_constants::Intrinsic;
 use check_names::{Flaw, counts, when, worded_when};
-use check_operands::{Made, operand_kept};
+use check_operands::Made;
 use check_types::{Allowed, Types, head, type_flaw};
 use ir_values::{Arg, Const, Head, Operand, Ty};
+use kept_parts::{argument_kept, called, called_intrinsic};
 use ltt_base::{Code, List, Memory, Text};
 use std::alloc::Global;
 
@@ -98,23 +99,6 @@ fn is_shift(value: &Operand) -> bool
     match value {
         Operand::Reg(_) => false,
         Operand::Const(constant) => is_shift_layer(constant),
-    }
-}
-
-/// An argument's value as a module keeps it. `None`: it is metadata.
-///
-/// Source: LLVM Language Reference, "'call' Instruction".
-pub fn argument_kept<'a>(
-    alloc: Global,
-    types: &Types<'a>,
-    arg: &'a Arg,
-) -> Result<Option<Operand>, Memory>
-    ensures { IfOk result (λ kept. kept ≡ spec.argument_kept types.now.units arg.now) }
-{
-    match arg {
-        Arg::Value { ty, value, .. } => Ok(Some(operand_kept(alloc, types, ty, value)?)),
-        Arg::Word(_) => Ok(None),
-        Arg::Node(_) => Ok(None),
     }
 }
 

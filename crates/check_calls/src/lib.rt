@@ -7,5 +7,5 @@ mod calls;
 mod fitting;
 
 pub use arguments::{Role, node_flaw, role_of};
-pub use callees::{called, called_intrinsic, function_of, is_left_call};
-pub use calls::{argument_kept, call_flaw};
+pub use callees::is_left_call;
+pub use calls::call_flaw;

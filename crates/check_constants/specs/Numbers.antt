@@ -2,9 +2,9 @@
 -- Source: LLVM Language Reference, "Simple Constants". Differs: an integer type of w bits holds the numbers from -2^(w-1) to 2^w - 1.
 use Rattle.std.specs.Prelude.{ℕ, ◌+◌, ◌-◌, ◌%◌, ◌^◌, Bool, true, false, ◌&&◌, cond, nat_eq, nat_le, nat_lt, min, List, [], ◌∷◌, drop, length, Option, Some, None}
 use Rattle.std.specs.List.{list_all}
-use Rattle.ir_print.specs.Names.{is_digit, value_of}
+use Rattle.ir_names.specs.Names.{is_digit, value_of}
 use Rattle.ir_values.specs.declared.types.Width.{Width}
-use Rattle.ir_values.specs.Numbers.{bits}
+use Rattle.ir_numbers.specs.Numbers.{bits}
 
 -- 45 is `-`
 abbrev pub is_negative : List ℕ → Bool

@@ -10,7 +10,7 @@ use ltt_base::Code;
 
 /// An index of an address: a number with its sign, as one of 64 bits; the number of an address; what is left out or stands at a type
 /// that isn't known; or anything else, such as a register.
-#[derive(Debug, Clone, Copy)]
+#[derive(Clone, Copy)]
 pub enum Index {
     Number(u64),
     Address,

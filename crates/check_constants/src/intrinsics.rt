@@ -14,7 +14,7 @@ use std::alloc::Global;
 /// `llvm.ubsantrap` and `Rotate` `llvm.fshr.i64`.
 ///
 /// Source: LLVM Language Reference, "Intrinsic Functions".
-#[derive(Debug, Clone, Copy)]
+#[derive(Clone, Copy)]
 pub enum Intrinsic {
     Test,
     CheckedLoad,

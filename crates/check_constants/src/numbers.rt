@@ -1,26 +1,10 @@
 // Numbers by their texts, and numbers with their signs.
-ghost use Rattle.std.specs.Prelude.{◌≡◌, ◌≤◌, ◌-◌, ◌^◌, min};
-ghost use Rattle.std.specs.List.{list_all};
-ghost use Rattle.ir_values.specs.Numbers.{bits};
-ghost use Rattle.ir_print.specs.Names.{is_digit, value_of};
+ghost use Rattle.std.specs.Prelude.{◌≡◌, ◌≤◌, ◌-◌, ◌^◌};
+ghost use Rattle.ir_numbers.specs.Numbers.{bits};
 ghost use Rattle.check_constants.specs.Numbers as spec;
 
+use ir_names::{all_digits, value_of};
 use ir_values::Width;
-
-const LIMIT: u128 = 0x1_0000_0000_0000_0000;
-
-#[tactic(auto, unfolding(ir_print::specs::Names::is_digit))]
-fn is_digit(byte: u8) -> bool
-    ensures { result ≡ is_digit byte }
-{
-    b'0' <= byte && byte <= b'9'
-}
-
-fn are_digits(bytes: &[u8]) -> bool
-    ensures { result ≡ list_all is_digit bytes.now }
-{
-    bytes.iter().all(|byte| is_digit(*byte))
-}
 
 fn is_negative(text: &[u8]) -> bool
     ensures { result ≡ spec.is_negative text.now }
@@ -43,24 +27,14 @@ pub fn is_number(text: &[u8]) -> bool
     ensures { result ≡ spec.is_number text.now }
 {
     let digits = digits_of(text);
-    !digits.is_empty() && are_digits(digits)
-}
-
-fn value(digits: &[u8]) -> u128
-    ensures { result ≡ min (value_of digits.now) (2 ^ 64) }
-{
-    let mut value = 0;
-    for digit in digits {
-        value = LIMIT.min(value * 10 + u128::from(digit.saturating_sub(b'0')));
-    }
-    value
+    !digits.is_empty() && all_digits(digits)
 }
 
 #[tactic(auto, unfolding(crate::specs::Numbers::magnitude))]
 fn magnitude(text: &[u8]) -> u128
     ensures { result ≡ spec.magnitude text.now }
 {
-    value(digits_of(text))
+    value_of(digits_of(text))
 }
 
 fn size(width: Width) -> u128

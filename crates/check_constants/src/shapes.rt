@@ -1,13 +1,14 @@
 // Tests of known types at which constants of each form may not stand.
 ghost use Rattle.std.specs.Prelude.{◌≡◌, nat_eq};
-ghost use Rattle.ir_values.specs.Numbers as numbers;
+ghost use Rattle.ir_numbers.specs.Numbers as numbers;
 ghost use Rattle.std.specs.Option.{option_copied};
 ghost use Rattle.check_types.specs.Written.{is_pointer};
 ghost use Rattle.check_constants.specs.Shapes as spec;
 
 use crate::expected::Expected;
 use check_types::{Types, differ, head};
-use ir_values::{Ty, Width, bits};
+use ir_numbers::bits;
+use ir_values::{Ty, Width};
 
 /// Whether a known type isn't `ptr`.
 pub fn is_other_than_pointer(place: Expected<'_>) -> bool

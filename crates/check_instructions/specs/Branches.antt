@@ -17,7 +17,8 @@ use Rattle.check_types.specs.declared.places.Allowed.TheVariants.{Scalar, Intege
 use Rattle.check_operands.specs.Made.{bit}
 use Rattle.check_operands.specs.Registers.{head_at}
 use Rattle.check_operands.specs.Operands.{other_flaw, label_flaw, operand_flaw, value_flaw}
-use Rattle.check_instructions.specs.Cases.{Case, cases_flaw}
+use Rattle.kept_parts.specs.CaseNumbers.{Case}
+use Rattle.check_instructions.specs.Cases.{cases_flaw}
 
 abbrev pub fork_flaw : Bool → List (Placed Unit) → ℕ → Operand → List ℕ → List ℕ → Option Flaw
 fork_flaw output us head test one other =

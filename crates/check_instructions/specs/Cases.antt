@@ -1,6 +1,6 @@
 -- The flaws of a switch's cases.
 -- Source: LLVM Language Reference, "'switch' Instruction". Differs: the codes are this project's own.
-use Rattle.std.specs.Prelude.{ℕ, suc, nat_eq, nat_lt, Bool, true, false, not, cond, List, [], ◌∷◌, map, Option, Some, None}
+use Rattle.std.specs.Prelude.{ℕ, suc, nat_eq, nat_lt, Bool, true, false, not, List, [], ◌∷◌, map, Option, Some, None}
 use Rattle.std.specs.List.{position_from}
 use Rattle.ltt_base.specs.declared.refusal.Code.TheVariants.{E04, E06}
 use Rattle.ltt_base.specs.declared.refusal.Placed.{Placed}
@@ -10,20 +10,16 @@ use Rattle.ir_values.specs.declared.constants.Const.{Const, out-Const}
 use Rattle.ir_values.specs.declared.constants.Const.TheOpen.{Const-F}
 use Rattle.ir_values.specs.declared.constants.Operand.{Operand}
 use Rattle.ir_values.specs.declared.units.Unit.{Unit}
-use Rattle.ir_values.specs.Numbers.{bits}
-use Rattle.ir_print.specs.Numbers.{integer_text}
+use Rattle.ir_names.specs.Numbers.{integer_text}
 use Rattle.check_names.specs.declared.flaws.Flaw.{Flaw}
 use Rattle.check_names.specs.Flaws.{◌then◌, each, when, worded_when}
 use Rattle.check_types.specs.declared.places.Allowed.TheVariants.{Integer}
 use Rattle.check_types.specs.Heads.{head}
 use Rattle.check_types.specs.Written.{type_flaw}
 use Rattle.check_constants.specs.Judged.{constant_flaw}
-use Rattle.check_constants.specs.Kept.{kept}
 use Rattle.check_operands.specs.Operands.{other_flaw, label_flaw}
-use Rattle.check_instructions.specs.Plain.{width_of}
-
-abbrev pub Case : Type 0
-Case = Ty × Const × List ℕ
+use Rattle.kept_parts.specs.CaseNumbers.{Case, case_kept, case_number}
+use Rattle.kept_parts.specs.Widths.{width_of}
 
 -- a kept constant that is a number, or has another flaw: it is left out, as the number of an address is in a source, or it is the zero
 -- of a type that no case may have
@@ -33,9 +29,6 @@ is_case_value output (Const-F.Number name offset) = not output
 is_case_value output (Const-F.Left text) = true
 is_case_value output (Const-F.Zero own) = true
 is_case_value output _ = false
-
-abbrev pub case_kept : List (Placed Unit) → Case → Const
-case_kept us case = kept us (Some case.0) case.1
 
 abbrev pub is_valued : Bool → List (Placed Unit) → Case → Bool
 is_valued output us case = is_case_value output (out-Const (case_kept us case))
@@ -47,14 +40,6 @@ case_flaw output us head ty case =
     then (other_flaw us false case.0 ty
     then (constant_flaw output us false (Some case.0) case.1
     then (when (not (is_valued output us case)) E06 then label_flaw output us head case.2)))
-
--- the number of a constant of this width
-abbrev pub number_of : Width → Const-F Const Operand → Option ℕ
-number_of width (Const-F.Int other n) = cond (nat_eq (bits other) (bits width)) (Some n) None
-number_of width _ = None
-
-abbrev pub case_number : List (Placed Unit) → Width → Case → Option ℕ
-case_number us width case = number_of width (out-Const (case_kept us case))
 
 abbrev pub is_number : ℕ → Option ℕ → Bool
 is_number n None = false

@@ -1,6 +1,6 @@
 -- The flaws of a phi, apart from those of its arms' labels as a whole.
 -- Source: LLVM Language Reference, "'phi' Instruction". Differs: the codes are this project's own.
-use Rattle.std.specs.Prelude.{ℕ, Bool, true, false, not, find, List, map, Option, Some, None}
+use Rattle.std.specs.Prelude.{ℕ, Bool, true, false, not, find, List, Option, Some, None}
 use Rattle.std.specs.List.{list_any}
 use Rattle.std.specs.Str.{bytes_eq}
 use Rattle.ltt_base.specs.declared.refusal.Code.TheVariants.{E03}
@@ -13,18 +13,11 @@ use Rattle.check_names.specs.declared.flaws.Flaw.{Flaw}
 use Rattle.check_names.specs.Flaws.{◌then◌, each, when}
 use Rattle.check_types.specs.declared.places.Allowed.TheVariants.{Scalar}
 use Rattle.check_types.specs.Written.{type_flaw}
-use Rattle.check_operands.specs.Operands.{label_flaw, operand_flaw, operand_kept}
-
--- a value and the label of the block that it comes from
-abbrev pub Arm : Type 0
-Arm = Operand × List ℕ
+use Rattle.check_operands.specs.Operands.{label_flaw, operand_flaw}
+use Rattle.kept_parts.specs.Arms.{Arm, kept_arms}
 
 abbrev pub arm_flaw : Bool → List (Placed Unit) → ℕ → Ty → Arm → Option Flaw
 arm_flaw output us head ty arm = operand_flaw output us false head ty arm.0 then label_flaw output us head arm.1
-
--- the arms with their values as a module keeps them
-abbrev pub kept_arms : List (Placed Unit) → Ty → List Arm → List Arm
-kept_arms us ty = map (λ arm. (operand_kept us ty arm.0, arm.1))
 
 abbrev pub has_label : List ℕ → Arm → Bool
 has_label label arm = bytes_eq arm.1 label

@@ -6,7 +6,8 @@ use Rattle.std.specs.Cmp.Lexicographic.{slice_cmp}
 use Rattle.std.specs.BTreeMap.{BTreeMap, get, get_by}
 use Rattle.std.specs.Borrow.{Bor}
 use Rattle.check_instructions.specs.Cases.{is_number}
-use Rattle.check_instructions.specs.Phis.{Arm, has_label}
+use Rattle.check_instructions.specs.Phis.{has_label}
+use Rattle.kept_parts.specs.Arms.{Arm}
 
 abbrev pub place_of : ℕ → BTreeMap ℕ ℕ → Option ℕ
 place_of n map = get nat_cmp map n

@@ -6,9 +6,8 @@ use Rattle.std.specs.Prelude.{ℕ, nat_eq, nat_lt, Bool, true, false, not, ◌||
 use Rattle.ltt_base.specs.declared.refusal.Code.TheVariants.{E06, E07}
 use Rattle.ltt_base.specs.declared.refusal.Placed.{Placed}
 use Rattle.ir_values.specs.declared.types.Width.{Width}
-use Rattle.ir_values.specs.declared.types.Ty.{Ty, out-Ty}
+use Rattle.ir_values.specs.declared.types.Ty.{Ty}
 use Rattle.ir_values.specs.declared.types.Ty.TheVariants.{Ptr}
-use Rattle.ir_values.specs.declared.types.Ty.TheOpen.{Ty-F}
 use Rattle.ir_values.specs.declared.constants.Const.{Const, out-Const}
 use Rattle.ir_values.specs.declared.constants.Const.TheOpen.{Const-F}
 use Rattle.ir_values.specs.declared.constants.Operand.{Operand}
@@ -16,7 +15,7 @@ use Rattle.ir_values.specs.declared.constants.Operand.TheVariants as operand
 use Rattle.ir_values.specs.declared.instructions.Pred.{Pred}
 use Rattle.ir_values.specs.declared.instructions.CastOp.{CastOp}
 use Rattle.ir_values.specs.declared.units.Unit.{Unit}
-use Rattle.ir_values.specs.Numbers.{bits}
+use Rattle.ir_numbers.specs.Numbers.{bits}
 use Rattle.check_names.specs.declared.flaws.Flaw.{Flaw}
 use Rattle.check_names.specs.Flaws.{◌then◌, when, worded_when}
 use Rattle.check_types.specs.declared.places.Allowed.{Allowed}
@@ -26,6 +25,7 @@ use Rattle.check_types.specs.Written.{type_flaw}
 use Rattle.check_constants.specs.Judged.{constant_flaw}
 use Rattle.check_operands.specs.Made.{pair}
 use Rattle.check_operands.specs.Operands.{other_flaw, register_flaw, operand_flaw, value_flaw}
+use Rattle.kept_parts.specs.Widths.{width_of}
 
 -- two operands of one type
 abbrev pub both_flaw : Bool → List (Placed Unit) → ℕ → Allowed → Ty → Operand → Operand → Option Flaw
@@ -43,15 +43,6 @@ select_flaw output us head cond_ty test ty a other_ty b =
     value_flaw output us false head Bit cond_ty test
     then (value_flaw output us false head Scalar ty a
     then (value_flaw output us false head Scalar other_ty b then other_flaw us false other_ty ty))
-
-abbrev pub layer_width : Ty-F Ty → Option Width
-layer_width (Ty-F.Int width) = Some width
-layer_width _ = None
-
--- the width of a known type of integers
-abbrev pub width_of : Option Ty → Option Width
-width_of None = None
-width_of (Some ty) = layer_width (out-Ty ty)
 
 -- a cast to more bits, or to fewer
 abbrev pub is_cast : CastOp → Width → Width → Bool

@@ -3,17 +3,18 @@ ghost use Rattle.std.specs.Prelude.{◌≡◌, ◌<◌, ℕ, nat_eq, cond, get_o
 ghost use Rattle.std.specs.Option.{option_copied};
 ghost use Rattle.ir_values.specs.declared.constants.Const.{out-Const};
 ghost use Rattle.check_names.specs.Flaws.{each};
+ghost use Rattle.kept_parts.specs.CaseNumbers as numbers_spec;
 ghost use Rattle.check_instructions.specs.Cases as spec;
 ghost use Rattle.check_instructions.specs.Places.{place_of, FindsPlaces};
 
-use crate::plain::width_of;
-use crate::words::number_word;
 use check_bodies::Body;
 use check_constants::{constant_flaw, kept};
 use check_names::{Flaw, counts, when, worded_when};
 use check_operands::{label_flaw, other_flaw};
 use check_types::{Allowed, Types, head, type_flaw};
-use ir_values::{Const, Ty, Width, bits};
+use ir_names::integer_word;
+use ir_values::{Const, Ty, Width};
+use kept_parts::{case_number, width_of};
 use ltt_base::{Code, List, Memory, Text};
 use std::alloc::Global;
 use std::collections::BTreeMap;
@@ -82,43 +83,13 @@ fn each_case_flaw<'a>(
     Ok(flaw)
 }
 
-fn number_of(width: Width, constant: &Const) -> Option<u64>
-    ensures { result ≡ spec.number_of width (out-Const constant.now) }
-{
-    match constant {
-        Const::Int(other, n) => {
-            if bits(*other) == bits(width) {
-                Some(*n)
-            } else {
-                None
-            }
-        }
-        _ => None,
-    }
-}
-
-/// The number that a case of a switch on integers of a width has as its value. `None`: its value is no number of that width.
-///
-/// Source: LLVM Language Reference, "'switch' Instruction".
-pub fn case_number<'a>(
-    alloc: Global,
-    types: &Types<'a>,
-    width: Width,
-    case: &'a (Ty, Const, Text),
-) -> Result<Option<u64>, Memory>
-    ensures { IfOk result (λ n. n ≡ spec.case_number types.now.units width case.now) }
-{
-    let value = kept(alloc, types, Some(&case.0), &case.1)?;
-    Ok(number_of(width, &value))
-}
-
 fn case_numbers<'a>(
     alloc: Global,
     types: &Types<'a>,
     width: Width,
     cases: &'a [(Ty, Const, Text)],
 ) -> Result<List<Option<u64>>, Memory>
-    ensures { IfOk result (λ numbers. numbers ≡ map (spec.case_number types.now.units width) cases.now) }
+    ensures { IfOk result (λ numbers. numbers ≡ map (numbers_spec.case_number types.now.units width) cases.now) }
 {
     let mut numbers = List::new(alloc);
     for case in cases {
@@ -170,7 +141,7 @@ fn repeated_flaw(alloc: Global, width: Width, again: bool, n: u64) -> Result<Opt
     if !again {
         return Ok(None);
     }
-    let word = number_word(alloc, width, n)?;
+    let word = integer_word(alloc, width, n)?;
     worded_when(alloc, true, Code::E04, word.bytes())
 }
 

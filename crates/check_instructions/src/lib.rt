@@ -7,9 +7,5 @@ mod cases;
 mod flaws;
 mod phis;
 mod plain;
-mod words;
 
-pub use cases::case_number;
 pub use flaws::instruction_flaw;
-pub use phis::kept_arms;
-pub use plain::width_of;

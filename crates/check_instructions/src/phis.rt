@@ -9,10 +9,11 @@ ghost use Rattle.check_instructions.specs.Places.{arm_place, FindsArms};
 
 use check_bodies::Body;
 use check_names::{Flaw, counts, when};
-use check_operands::{Made, label_flaw, operand_flaw, operand_kept};
+use check_operands::{Made, label_flaw, operand_flaw};
 use check_types::{Allowed, Types, type_flaw};
 use ir_values::{Operand, Ty};
-use ltt_base::{Code, List, Memory, Same, Text};
+use kept_parts::kept_arms;
+use ltt_base::{Code, Memory, Same, Text};
 use std::alloc::Global;
 use std::collections::BTreeMap;
 
@@ -50,24 +51,6 @@ fn each_arm_flaw<'a>(
         flaw = counts(arm_flaw(alloc, types, made, body, ty, &arms[at])?, flaw);
     }
     Ok(flaw)
-}
-
-/// The arms of a phi with their values as a module keeps them.
-pub fn kept_arms<'a>(
-    alloc: Global,
-    types: &Types<'a>,
-    ty: &'a Ty,
-    arms: &'a [(Operand, Text)],
-) -> Result<List<(Operand, Text)>, Memory>
-    ensures { IfOk result (λ kept. kept ≡ spec.kept_arms types.now.units ty.now arms.now) }
-{
-    let mut kept = List::new(alloc);
-    for arm in arms {
-        let value = operand_kept(alloc, types, ty, &arm.0)?;
-        let label = Text::copy(alloc, arm.1.bytes())?;
-        kept.add((value, label))?;
-    }
-    Ok(kept)
 }
 
 fn put<'a>(map: &mut BTreeMap<&'a [u8], usize>, label: &'a [u8], at: usize) -> Result<(), Memory>

@@ -1,7 +1,5 @@
 // Instructions that compute a value, or load or store one.
 ghost use Rattle.std.specs.Prelude.{◌≡◌, IfOk};
-ghost use Rattle.std.specs.Option.{option_copied};
-ghost use Rattle.ir_values.specs.declared.types.Ty.{out-Ty};
 ghost use Rattle.ir_values.specs.declared.constants.Const.{out-Const};
 ghost use Rattle.check_instructions.specs.Plain as spec;
 
@@ -10,7 +8,9 @@ use check_constants::constant_flaw;
 use check_names::{Flaw, counts, when, worded_when};
 use check_operands::{Made, operand_flaw, other_flaw, register_flaw, value_flaw};
 use check_types::{Allowed, Types, head, type_flaw};
-use ir_values::{CastOp, Const, Operand, Pred, Ty, Width, bits};
+use ir_numbers::bits;
+use ir_values::{CastOp, Const, Operand, Pred, Ty, Width};
+use kept_parts::width_of;
 use ltt_base::{Code, Memory};
 use std::alloc::Global;
 
@@ -90,25 +90,6 @@ pub(crate) fn select_flaw<'a>(
     )?;
     let unlike = other_flaw(types, false, other.0, one.0);
     Ok(counts(tested, counts(first, counts(second, unlike))))
-}
-
-fn layer_width(ty: &Ty) -> Option<Width>
-    ensures { result ≡ spec.layer_width (out-Ty ty.now) }
-{
-    match ty {
-        Ty::Int(width) => Some(*width),
-        _ => None,
-    }
-}
-
-/// The width of a known type of integers. `None`: it is no such type, or isn't known.
-pub fn width_of(ty: Option<&Ty>) -> Option<Width>
-    ensures { result ≡ spec.width_of (option_copied ty.entry) }
-{
-    match ty {
-        Some(ty) => layer_width(ty),
-        None => None,
-    }
 }
 
 fn is_cast(op: CastOp, from: Width, to: Width) -> bool

@@ -1,6 +1,6 @@
 -- The type entries and the visibility that attachments give.
 -- Source: LLVM, "Type Metadata". Differs: of several visibilities the first counts; without one it is 0.
-use Rattle.std.specs.Prelude.{ℕ, ◌^◌, cond, nat_lt, flat_map, List, [], ◌∷◌, Option, Some, None}
+use Rattle.std.specs.Prelude.{ℕ, cond, nat_lt, flat_map, List, [], ◌∷◌, Option, Some, None}
 use Rattle.ltt_base.specs.declared.refusal.Placed.{Placed}
 use Rattle.ir_values.specs.declared.modules.Entry.{Entry}
 use Rattle.ir_values.specs.declared.modules.TypeId.{TypeId}
@@ -9,13 +9,9 @@ use Rattle.ir_values.specs.declared.units.MetaItem.{MetaItem, out-MetaItem}
 use Rattle.ir_values.specs.declared.units.MetaItem.TheOpen.{MetaItem-F}
 use Rattle.ir_values.specs.declared.units.Attach.{Attach}
 use Rattle.ir_values.specs.declared.units.Unit as unit
-use Rattle.ir_print.specs.Names.{value_of}
+use Rattle.kept_parts.specs.NodeNumbers.{node_number}
 use Rattle.check_items.specs.Nodes.{node_items, offset_of, id_of, lone_number}
 use Rattle.check_items.specs.Attached.{is_type, is_visibility}
-
--- a node's number; one of 2^32 or more, which no accepted file has, is taken as 0
-abbrev pub node_number : List ℕ → ℕ
-node_number digits = cond (nat_lt (value_of digits) (2 ^ 32)) (value_of digits) 0
 
 abbrev pub item_id : ℕ → MetaItem-F MetaItem → Option TypeId
 item_id file (MetaItem-F.Word text) = Some (id.Name text)

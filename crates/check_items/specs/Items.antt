@@ -9,7 +9,7 @@ use Rattle.ir_values.specs.declared.units.HeaderKind.{HeaderKind}
 use Rattle.ir_values.specs.declared.units.HeaderKind.TheVariants.{Layout}
 use Rattle.ir_values.specs.declared.units.Form.{Form}
 use Rattle.ir_values.specs.declared.units.Form.TheVariants.{HeaderForm, TypeForm, VariableForm, DeclareForm, DefineForm, MetadataForm, TableForm, LeftForm}
-use Rattle.ir_print.specs.Names.{is_decimal}
+use Rattle.ir_names.specs.Names.{is_decimal}
 use Rattle.check_names.specs.declared.flaws.Flaw.{Flaw}
 use Rattle.check_names.specs.declared.spaces.Space.TheVariants.{Types, Nodes}
 use Rattle.check_names.specs.Flaws.{◌then◌, worded_when}

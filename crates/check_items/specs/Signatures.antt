@@ -10,7 +10,7 @@ use Rattle.ir_values.specs.declared.types.Ty.TheOpen.{Ty-F}
 use Rattle.ir_values.specs.declared.units.Unit as unit
 use Rattle.ir_values.specs.declared.units.Param.{Param}
 use Rattle.ir_values.specs.declared.units.Head.{Head}
-use Rattle.ir_values.specs.Numbers.{bits}
+use Rattle.ir_numbers.specs.Numbers.{bits}
 use Rattle.check_types.specs.Heads.{head}
 use Rattle.check_constants.specs.declared.intrinsics.Intrinsic.{Intrinsic}
 use Rattle.check_constants.specs.declared.intrinsics.Intrinsic.TheVariants.{Test, CheckedLoad, Assume, Trap, CodedTrap, Rotate}

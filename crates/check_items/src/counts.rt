@@ -11,7 +11,7 @@ use std::alloc::Global;
 
 /// What the units before a place have: variables, functions that are no intrinsics, both whether declared or defined, and type
 /// entries of definitions, repeated ones counted. The count of entries ends at 2^64 - 1.
-#[derive(Debug, Clone, Copy)]
+#[derive(Clone, Copy)]
 pub struct Counts {
     pub variables: usize,
     pub functions: usize,

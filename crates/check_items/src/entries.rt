@@ -6,17 +6,11 @@ ghost use Rattle.check_items.specs.Entries as spec;
 
 use crate::attached::{is_type, is_visibility};
 use crate::nodes::{id_of, lone_number, node_items, offset_of};
-use check_names::{Context, number_of};
+use check_names::Context;
 use ir_values::{Attach, Entry, MetaItem, TypeId};
+use kept_parts::node_number;
 use ltt_base::{Copied, List, Memory};
 use std::alloc::Global;
-
-/// A node's number. One of 2^32 or more, which no accepted file has, is taken as 0.
-pub fn node_number(digits: &[u8]) -> u32
-    ensures { result ≡ spec.node_number digits.now }
-{
-    u32::try_from(number_of(digits)).unwrap_or(0)
-}
 
 fn item_id(alloc: Global, file: u32, item: &MetaItem) -> Result<Option<TypeId>, Memory>
     ensures { IfOk result (λ id. id ≡ spec.item_id file (out-MetaItem item.now)) }

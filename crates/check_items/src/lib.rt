@@ -17,7 +17,7 @@ mod variables;
 
 pub use attached::{attached_flaw, declared_flaw, is_type, is_visibility};
 pub use counts::{Counts, carriers_flaw, counted, first_counts, functions_flaw, variables_flaw};
-pub use entries::{entries_of, node_number, visibility_of};
+pub use entries::{entries_of, visibility_of};
 pub use functions::{declare_flaw, define_flaw};
 pub use identifiers::{identifiers_flaw, too_many_from};
 pub use items::item_flaw;

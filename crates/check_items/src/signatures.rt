@@ -6,11 +6,12 @@ ghost use Rattle.check_items.specs.Signatures as spec;
 
 use check_constants::Intrinsic;
 use check_types::{Types, head};
-use ir_values::{Head, Param, Ty, Width, bits};
+use ir_numbers::bits;
+use ir_values::{Head, Param, Ty, Width};
 
 /// A type that an intrinsic has in its declaration. `Loaded`: `{ ptr, i1 }`. `Anything`: where `metadata` stands, which has a
 /// rule of its own.
-#[derive(Debug, Clone, Copy)]
+#[derive(Clone, Copy)]
 pub enum Shape {
     Nothing,
     Number(Width),

@@ -4,7 +4,7 @@ use Rattle.std.specs.Prelude.{ℕ, Bool, cond, nat_le, List, [], ◌∷◌, Opti
 use Rattle.ltt_base.specs.declared.refusal.Code.{Code}
 use Rattle.ltt_base.specs.declared.refusal.Code.TheVariants.{E01, E02, E03, E04, E05, E06, E07, E08, E09, E10, E11, E12}
 use Rattle.check_names.specs.declared.flaws.Flaw.{Flaw}
-use Rattle.check_names.specs.Words.{named_word}
+use Rattle.ir_names.specs.Words.{named_word}
 
 -- a code's number
 abbrev pub rank : Code → ℕ

@@ -1,8 +1,7 @@
--- What the public clauses rest on.
+-- what the public clauses rest on
 pub mod Flaws
-pub mod Words
 pub mod Spaces
 pub mod Reserved
 pub mod File
--- What private clauses cite besides.
+-- helpers
 pub mod Index

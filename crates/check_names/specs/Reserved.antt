@@ -5,7 +5,7 @@ use Rattle.std.specs.List.{starts_with}
 use Rattle.ltt_base.specs.declared.refusal.Code.TheVariants.{E07}
 use Rattle.ltt_base.specs.declared.refusal.Placed.{Placed}
 use Rattle.ir_values.specs.declared.units.Unit as unit
-use Rattle.ir_print.specs.Names.{is_decimal, value_of}
+use Rattle.ir_names.specs.Names.{is_decimal, value_of}
 use Rattle.check_names.specs.declared.flaws.Flaw.{Flaw}
 use Rattle.check_names.specs.declared.spaces.Space.{Space}
 use Rattle.check_names.specs.Flaws.{named_when, ◌then◌}

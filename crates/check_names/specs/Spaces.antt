@@ -10,7 +10,7 @@ use Rattle.ltt_base.specs.declared.refusal.Placed.{Placed}
 use Rattle.ir_values.specs.declared.units.Unit as unit
 use Rattle.ir_values.specs.declared.units.Form.{Form}
 use Rattle.ir_values.specs.declared.units.Form.TheVariants.{VariableForm, DeclareForm, DefineForm, TableForm, TypeForm, MetadataForm}
-use Rattle.ir_print.specs.Names.{is_decimal}
+use Rattle.ir_names.specs.Names.{is_decimal}
 use Rattle.check_names.specs.declared.flaws.Flaw.{Flaw}
 use Rattle.check_names.specs.declared.spaces.Space.{Space}
 use Rattle.check_names.specs.declared.spaces.Space.TheVariants.{Globals, Types, Nodes}

@@ -14,7 +14,7 @@ use std::marker::Model;
 /// The units of a file, whether it is an output, and which unit is the first to define each name.
 ///
 /// A look-up takes time that grows with the logarithm of the number of names.
-#[derive(Debug, Drop)]
+#[derive(Drop)]
 pub struct Context<'a> {
     output: bool,
     units: &'a [Placed<Unit>],

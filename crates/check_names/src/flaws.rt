@@ -2,14 +2,14 @@ ghost use Rattle.std.specs.Prelude.{◌≡◌, IfOk};
 ghost use Rattle.check_names.specs.Flaws as spec;
 ghost use Rattle.check_names.specs.Flaws.{◌then◌};
 
-use crate::words::named_word;
+use ir_names::named_word;
 use ltt_base::{Code, Memory, Text};
 use std::alloc::Global;
 
 /// What is wrong with a unit: the code, and the word that the refusal shows.
 ///
 /// Without a word of its own it shows the unit's first token.
-#[derive(Debug, Drop)]
+#[derive(Drop)]
 pub struct Flaw {
     pub code: Code,
     pub name: Option<Text>,

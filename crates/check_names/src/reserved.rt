@@ -1,14 +1,13 @@
-ghost use Rattle.std.specs.Prelude.{◌≡◌, ◌^◌, min, IfOk};
-ghost use Rattle.ir_print.specs.Names.{value_of};
+ghost use Rattle.std.specs.Prelude.{◌≡◌, IfOk};
 ghost use Rattle.check_names.specs.Reserved as spec;
 
 use crate::context::Context;
 use crate::flaws::{Flaw, named_when};
-use crate::words::is_decimal;
+use ir_names::{is_decimal, value_of};
 use ltt_base::{Code, Memory};
 use std::alloc::Global;
 
-const LIMIT: u64 = 4_294_967_296;
+const LIMIT: u128 = 4_294_967_296;
 
 fn is_made(name: &[u8]) -> bool
     ensures { result ≡ spec.is_made name.now }
@@ -23,21 +22,10 @@ pub fn is_intrinsic(name: &[u8]) -> bool
     name.starts_with(b"llvm.")
 }
 
-/// The number that digits make, or 2^32 where it is more.
-pub fn number_of(digits: &[u8]) -> u64
-    ensures { result ≡ min (value_of digits.now) (2 ^ 32) }
-{
-    let mut value = 0;
-    for digit in digits {
-        value = LIMIT.min(value * 10 + u64::from(digit.saturating_sub(b'0')));
-    }
-    value
-}
-
 fn is_wide_number(name: &[u8]) -> bool
     ensures { result ≡ spec.is_wide_number name.now }
 {
-    is_decimal(name) && number_of(name) >= LIMIT
+    is_decimal(name) && value_of(name) >= LIMIT
 }
 
 /// A name that the file must not use, behind its sign: a made one in a source, or a number of 2^32 or more.

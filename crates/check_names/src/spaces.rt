@@ -2,14 +2,14 @@ ghost use Rattle.std.specs.Prelude.{◌≡◌};
 ghost use Rattle.std.specs.Option.{option_copied};
 ghost use Rattle.check_names.specs.Spaces as spec;
 
-use crate::words::is_decimal;
+use ir_names::is_decimal;
 use ir_values::Form;
 use ltt_base::Text;
 
 /// A set of names in which each name has one definition: globals, named types, and numbers of metadata nodes.
 ///
 /// Source: LLVM Language Reference, "Identifiers" and "Metadata".
-#[derive(Debug, Clone, Copy)]
+#[derive(Clone, Copy)]
 pub enum Space {
     Globals,
     Types,

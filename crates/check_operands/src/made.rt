@@ -8,7 +8,7 @@ use std::alloc::Global;
 use std::marker::Model;
 
 /// Types that no unit writes, to be lent where one is asked for.
-#[derive(Debug, Drop)]
+#[derive(Drop)]
 pub struct Made {
     void: Ty,
     bit: Ty,

@@ -3,7 +3,7 @@ use Rattle.std.proofs.Common.{◌≡◌, refl, ◌∙◌, ap, sym, subst, ℕ, z
 use Rattle.std.specs.Prelude.{not, cond, nat_eq, Result, IfOk}
 use Rattle.ltt_base.specs.declared.refusal.Memory.{Memory}
 use Rattle.ltt_base.specs.declared.refusal.Placed.{Placed}
-use Rattle.ir_values.specs.Numbers.{bits}
+use Rattle.ir_numbers.specs.Numbers.{bits}
 use Rattle.ir_values.specs.declared.types.Ty.{Ty, out-Ty}
 use Rattle.ir_values.specs.declared.types.Ty.TheOpen.{Ty-F}
 use Rattle.ir_values.specs.declared.units.Unit as unit

@@ -5,7 +5,7 @@ use Rattle.ltt_base.specs.declared.refusal.Placed.{Placed}
 use Rattle.ir_values.specs.declared.types.Ty.{Ty, out-Ty}
 use Rattle.ir_values.specs.declared.types.Ty.TheOpen.{Ty-F}
 use Rattle.ir_values.specs.declared.units.Unit as unit
-use Rattle.ir_values.specs.Numbers.{bits}
+use Rattle.ir_numbers.specs.Numbers.{bits}
 use Rattle.check_types.specs.Heads.{head}
 use Rattle.check_types.specs.Measures.{is_past}
 

@@ -8,7 +8,7 @@ use Rattle.ltt_base.specs.declared.refusal.Placed.{Placed}
 use Rattle.ir_values.specs.declared.types.Ty.{Ty, fold-Ty}
 use Rattle.ir_values.specs.declared.types.Ty.TheOpen.{Ty-F}
 use Rattle.ir_values.specs.declared.units.Unit as unit
-use Rattle.ir_values.specs.Layout.{width_bytes}
+use Rattle.ir_numbers.specs.Layout.{width_bytes}
 use Rattle.check_names.specs.declared.flaws.Flaw.{Flaw}
 use Rattle.check_names.specs.Flaws.{worded_when}
 use Rattle.check_types.specs.Named.{named_type, is_endless}

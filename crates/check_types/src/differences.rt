@@ -7,7 +7,8 @@ ghost use Rattle.check_types.specs.Differences as spec;
 use crate::ends::Types;
 use crate::heads::head;
 use crate::sizes::is_past;
-use ir_values::{Ty, bits};
+use ir_numbers::bits;
+use ir_values::Ty;
 use ltt_base::Same;
 
 /// The most levels of a type within the limits.

@@ -14,7 +14,7 @@ use std::marker::Model;
 /// they are gone at last; and how much the units' types take.
 ///
 /// A look-up takes time that grows with the logarithm of the number of names.
-#[derive(Debug, Drop)]
+#[derive(Drop)]
 pub struct Types<'a> {
     context: Context<'a>,
     ending: List<bool>,

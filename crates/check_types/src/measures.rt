@@ -2,7 +2,7 @@
 ghost use Rattle.std.specs.Prelude.{◌≡◌, ◌+◌, ◌*◌, ◌^◌, ◌<◌, ◌≤◌, Some, map};
 ghost use Rattle.std.specs.Option.{option_copied};
 ghost use Rattle.ir_values.specs.declared.types.Ty.{fold-Ty};
-ghost use Rattle.ir_values.specs.Layout.{width_bytes};
+ghost use Rattle.ir_numbers.specs.Layout.{width_bytes};
 ghost use Rattle.check_types.specs.Measures as spec;
 ghost use Rattle.check_types.specs.Marks.{measure_at, table_measure, table_measure_of, type_at};
 
@@ -18,7 +18,7 @@ const MOST_BYTES: u64 = 1 << 24;
 /// How many types are written in a type, itself included; the bytes that it takes; and the alignment of its place.
 ///
 /// It is within the limits of 4,096 types and 2^24 bytes.
-#[derive(Debug, Clone, Copy)]
+#[derive(Clone, Copy)]
 pub struct Measure {
     count: u64,
     size: u64,

@@ -9,7 +9,7 @@ use ltt_base::{List, Memory};
 use std::alloc::Global;
 
 /// What is still to be done: to enter a unit, or to leave it with all done that its type names.
-#[derive(Debug, Clone, Copy)]
+#[derive(Clone, Copy)]
 enum Step {
     Enter(usize),
     Leave(usize),

@@ -13,7 +13,7 @@ use ltt_base::Code;
 /// The types that may stand at a place.
 ///
 /// `Returned`: `void`, an integer or `ptr`. `Scalar`: an integer or `ptr`. `Bit`: `i1`. `Metadata`: the word `metadata` alone.
-#[derive(Debug, Clone, Copy)]
+#[derive(Clone, Copy)]
 pub enum Allowed {
     Every,
     NonVoid,

@@ -9,7 +9,7 @@ use Rattle.ir_values.specs.declared.constants.Const.TheOpen.{Const-F}
 use Rattle.ir_values.specs.declared.constants.Operand.{Operand}
 use Rattle.check_names.specs.declared.spaces.Space.TheVariants.{Globals}
 use Rattle.check_names.specs.Spaces.{sign, missing_flaw}
-use Rattle.check_names.specs.Words.{named_word}
+use Rattle.ir_names.specs.Words.{named_word}
 use Rattle.check_names.specs.Flaws.{◌then◌, each}
 use Rattle.check_names.specs.Reserved.{reserved_flaw, use_flaw}
 use Rattle.check_types.specs.declared.places.Allowed.TheVariants.{NonVoid}

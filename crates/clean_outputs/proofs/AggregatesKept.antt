@@ -13,7 +13,7 @@ use Rattle.ir_values.specs.declared.constants.Const.TheVariants as const
 use Rattle.ir_values.specs.declared.constants.Const.TheVariants.{outs-Zero, outs-Array, outs-Struct, outs-Bytes}
 use Rattle.ir_values.specs.declared.constants.Const.TheOpen.{Const-F}
 use Rattle.ir_values.specs.declared.constants.Operand.{Operand}
-use Rattle.ir_values.specs.Numbers.{bits}
+use Rattle.ir_numbers.specs.Numbers.{bits}
 use Rattle.check_types.specs.Heads.{head}
 use Rattle.check_types.specs.Replaced.{replaced}
 use Rattle.check_constants.specs.Keeping.{is_zero, are_zero, is_byte_layer, is_byte_head, byte_of, array_kept, struct_kept, bytes_kept}

@@ -9,13 +9,14 @@ use Rattle.ir_values.specs.declared.constants.Operand.{Operand}
 use Rattle.ir_values.specs.declared.units.Head.{Head}
 use Rattle.ir_values.specs.declared.units.Arg.{Arg}
 use Rattle.check_names.specs.Flaws.{◌then◌, worded_when}
-use Rattle.check_names.specs.Words.{named_word}
+use Rattle.ir_names.specs.Words.{named_word}
 use Rattle.check_types.specs.declared.places.Allowed.TheVariants.{Returned}
 use Rattle.check_types.specs.Written.{type_flaw}
 use Rattle.check_constants.specs.declared.intrinsics.Intrinsic.{Intrinsic}
 use Rattle.check_constants.specs.declared.intrinsics.Intrinsic.TheVariants.{Test, CheckedLoad, Assume, Trap, CodedTrap, Rotate}
 use Rattle.check_constants.specs.Intrinsics.{intrinsic_of, is_declared_intrinsic}
-use Rattle.check_calls.specs.Callees.{called, called_intrinsic, is_left_call, callee_flaw}
+use Rattle.kept_parts.specs.Called.{called, called_intrinsic}
+use Rattle.check_calls.specs.Callees.{is_left_call, callee_flaw}
 use Rattle.check_calls.specs.Arguments.{arguments_from}
 use Rattle.check_calls.specs.Calls.{results, whole_flaw, written_flaw, rotation_flaw, is_named_void, fit_flaw, bundle_flaw, parts_flaw, call_of, call_to, call_flaw}
 use Rattle.check_calls.specs.Fitting.{is_misfit, is_mistyped}

@@ -31,7 +31,8 @@ use Rattle.check_constants.specs.Callees.{global_of, offset_of, callee_of}
 use Rattle.check_constants.specs.Intrinsics.{intrinsic_of, is_declared_intrinsic}
 use Rattle.check_constants.specs.Judged.{constant_flaw}
 use Rattle.check_constants.specs.Kept.{kept}
-use Rattle.check_calls.specs.Callees.{is_name, function_of, named_function, called, called_intrinsic, is_left_call, callee_flaw}
+use Rattle.kept_parts.specs.Called.{is_name, function_of, named_function, called, called_intrinsic}
+use Rattle.check_calls.specs.Callees.{is_left_call, callee_flaw}
 use Rattle.check_calls.specs.Calls.{call_flaw}
 use Rattle.check_calls.specs.Fitting.{is_mistyped}
 use Rattle.check_operands.specs.Operands.{operand_flaw, operand_kept}

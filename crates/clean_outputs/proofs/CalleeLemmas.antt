@@ -20,7 +20,7 @@ use Rattle.check_types.specs.Written.{type_flaw}
 use Rattle.check_bodies.specs.Bodies.{head_flaw}
 use Rattle.check_constants.specs.Intrinsics.{intrinsic_of, declares, is_declaration}
 use Rattle.check_constants.specs.Callees.{callee_of}
-use Rattle.check_calls.specs.Callees.{function_head, unit_function, function_of, may_call, named_function, called}
+use Rattle.kept_parts.specs.Called.{function_head, unit_function, function_of, may_call, named_function, called}
 use Rattle.check_items.specs.Attached.{attached_flaw, declared_flaw}
 use Rattle.check_items.specs.Counts.{counts_before, functions_flaw}
 use Rattle.check_items.specs.Functions.{rest_flaw, body_head_flaw, define_flaw, is_left, left_flaw, result_place, signature_flaw, declared_head_flaw, declare_flaw}

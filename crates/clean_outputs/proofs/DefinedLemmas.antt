@@ -16,7 +16,7 @@ use Rattle.ir_values.specs.declared.units.Form.{Form}
 use Rattle.ir_values.specs.declared.units.Form.TheVariants.{VariableForm, DeclareForm, DefineForm, TableForm}
 use Rattle.check_names.specs.declared.spaces.Space.TheVariants.{Globals}
 use Rattle.check_names.specs.Flaws.{◌then◌, each}
-use Rattle.check_names.specs.Words.{named_word}
+use Rattle.ir_names.specs.Words.{named_word}
 use Rattle.check_names.specs.Spaces.{sign, global_of, is_named, is_definition, defines, first_unit, again_flaw}
 use Rattle.check_names.specs.Reserved.{reserved_flaw, definition_flaw, intrinsic_flaw}
 use Rattle.check_types.specs.declared.places.Allowed.TheVariants.{Returned}

@@ -14,8 +14,8 @@ use Rattle.ir_values.specs.declared.units.Form.{Form}
 use Rattle.ir_values.specs.declared.units.Form.TheVariants.{VariableForm}
 use Rattle.type_grammar.specs.Levels.{levels}
 use Rattle.ir_print.specs.ModuleText.{module_text}
-use Rattle.ir_print.specs.Names.{is_name_start, is_name_byte, is_bare, is_decimal, is_digit, name_text}
-use Rattle.ir_print.specs.Numbers.{integer_text}
+use Rattle.ir_names.specs.Names.{is_name_start, is_name_byte, is_bare, is_decimal, is_digit, name_text}
+use Rattle.ir_names.specs.Numbers.{integer_text}
 use Rattle.ir_print.specs.Types.{ty_step}
 use Rattle.ir_print.specs.Constants.{Printed, const_step, operand_step}
 use Rattle.ir_print.specs.Items.{content_text, var_pieces}

@@ -3,7 +3,7 @@ use Rattle.std.proofs.Common.{◌≡◌, ℕ, true, false, List, Some}
 use Rattle.ir_values.specs.declared.modules.Func.{Func}
 use Rattle.ir_values.specs.declared.units.Head.{Head}
 use Rattle.check_constants.specs.Intrinsics.{is_declared_intrinsic}
-use Rattle.check_calls.specs.Callees.{function_of}
+use Rattle.kept_parts.specs.Called.{function_of}
 use Rattle.printed_modules.specs.Printed.{is_function, is_called_name}
 use Rattle.sized_modules.proofs.UnitLemmas.{Units}
 

@@ -20,7 +20,7 @@ use Rattle.check_names.specs.declared.spaces.Space.TheVariants.{Globals}
 use Rattle.check_names.specs.Spaces.{global_of, is_named, is_definition, first_unit}
 use Rattle.check_names.specs.Reserved.{is_intrinsic}
 use Rattle.check_constants.specs.Intrinsics.{is_declaration, declares, is_declared_intrinsic}
-use Rattle.check_calls.specs.Callees.{function_head, unit_function}
+use Rattle.kept_parts.specs.Called.{function_head, unit_function}
 use Rattle.built_modules.specs.Variables.{vars_in, vars_at}
 use Rattle.built_modules.specs.Functions.{declared, funcs_in, funcs_from}
 use Rattle.built_modules.specs.Modules.{jumps_in, jumps_at, module_of}

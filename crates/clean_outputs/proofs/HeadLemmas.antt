@@ -14,7 +14,7 @@ use Rattle.ir_print.specs.ModuleText.{has_none}
 use Rattle.check_names.specs.declared.spaces.Space.TheVariants.{Globals}
 use Rattle.check_names.specs.Flaws.{◌then◌, each, worded_when}
 use Rattle.check_names.specs.Reserved.{is_intrinsic, reserved_flaw, intrinsic_flaw, definition_flaw}
-use Rattle.check_names.specs.Words.{named_word}
+use Rattle.ir_names.specs.Words.{named_word}
 use Rattle.check_bodies.specs.Numbers.{behind_name, name_or}
 use Rattle.check_bodies.specs.Names.{parameters}
 use Rattle.check_bodies.specs.Bodies.{head_flaw}

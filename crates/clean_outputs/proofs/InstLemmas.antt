@@ -35,8 +35,10 @@ use Rattle.check_instructions.specs.Addresses.{indices_of, index_flaw}
 use Rattle.check_instructions.specs.Branches.{branch_flaw, returned_flaw, end_flaw}
 use Rattle.check_instructions.specs.Cases.{case_flaw, cases_flaw, cases_again}
 use Rattle.check_instructions.specs.Instructions.{own_flaw, form_flaw, instruction_flaw}
-use Rattle.check_instructions.specs.Phis.{Arm, arm_flaw, kept_arms, torn_flaw}
-use Rattle.check_instructions.specs.Plain.{compared, source_flaw, width_of, is_miscast, is_pair_part, extracted_flaw}
+use Rattle.kept_parts.specs.Arms.{Arm, kept_arms}
+use Rattle.check_instructions.specs.Phis.{arm_flaw, torn_flaw}
+use Rattle.kept_parts.specs.Widths.{width_of}
+use Rattle.check_instructions.specs.Plain.{compared, source_flaw, is_miscast, is_pair_part, extracted_flaw}
 use Rattle.check_constants.specs.Indices.{known, indices_flaw}
 use Rattle.built_instructions.specs.Branches.{branch_kept, end_kept}
 use Rattle.built_instructions.specs.Instructions.{form_kept, instruction_of}

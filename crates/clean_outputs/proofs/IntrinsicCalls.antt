@@ -16,7 +16,7 @@ use Rattle.ir_values.specs.declared.units.Param.{Param}
 use Rattle.ir_values.specs.declared.units.Head.{Head}
 use Rattle.ir_values.specs.declared.units.Arg.{Arg}
 use Rattle.ir_values.specs.declared.units.Arg.TheVariants.{Value, Word, Node}
-use Rattle.ir_values.specs.Numbers.{bits}
+use Rattle.ir_numbers.specs.Numbers.{bits}
 use Rattle.check_names.specs.declared.spaces.Space.TheVariants.{Globals}
 use Rattle.check_names.specs.Flaws.{◌then◌, worded_when}
 use Rattle.check_names.specs.Reserved.{is_intrinsic, reserved_flaw, definition_flaw}
@@ -33,7 +33,7 @@ use Rattle.check_constants.specs.Intrinsics.{intrinsic_of, is_declared_intrinsic
 use Rattle.check_items.specs.declared.signatures.Shape.TheVariants.{Number}
 use Rattle.check_items.specs.Functions.{words_flaw, param_flaw, params_flaw, rest_flaw, left_flaw, signature_flaw, typed_head_flaw}
 use Rattle.check_items.specs.Signatures.{is_number, passes, fits, all_fit, is_signature}
-use Rattle.check_calls.specs.Callees.{called_intrinsic}
+use Rattle.kept_parts.specs.Called.{called_intrinsic}
 use Rattle.check_calls.specs.Calls.{whole_flaw}
 use Rattle.check_calls.specs.Fitting.{is_other_argument, is_other_for, is_other_type, is_other_written, is_unfit, is_one, is_misfit, is_mistyped}
 use Rattle.check_operands.specs.Operands.{operand_kept}

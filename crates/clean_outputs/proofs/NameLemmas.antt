@@ -3,9 +3,9 @@ use Rattle.std.proofs.Common.{◌≡◌, sym, subst, arith, ℕ, ◌-◌, ◌^�
 use Rattle.std.proofs.lemmas.Bool.Decides.{nat_tests}
 use Rattle.std.proofs.lemmas.Fmt.{length-decimal-le}
 use Rattle.ltt_base.specs.declared.refusal.Code.TheVariants.{E07}
-use Rattle.ir_print.specs.Names.{is_decimal, is_number, value_of}
+use Rattle.ir_names.specs.Names.{is_decimal, is_number, value_of}
 use Rattle.check_names.specs.Reserved.{is_wide_number, reserved_flaw}
-use Rattle.check_names.specs.Words.{named_word}
+use Rattle.ir_names.specs.Words.{named_word}
 use Rattle.check_bodies.specs.Numbers.{name_or}
 use Rattle.source_runs.proofs.NumberLaws.{only_decimals_are_read}
 use Rattle.printed_units.specs.Written.{IsBytes, IsName}

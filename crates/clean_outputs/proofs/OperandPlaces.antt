@@ -14,7 +14,7 @@ use Rattle.ir_values.specs.declared.constants.Const.TheOpen.{Const-F}
 use Rattle.ir_values.specs.declared.constants.Operand.{Operand}
 use Rattle.ir_values.specs.declared.constants.Operand.TheVariants as operand
 use Rattle.ir_values.specs.declared.instructions.Pred.{Pred}
-use Rattle.ir_values.specs.Numbers.{bits}
+use Rattle.ir_numbers.specs.Numbers.{bits}
 use Rattle.type_grammar.specs.Levels.{levels}
 use Rattle.check_names.specs.Flaws.{◌then◌, each, when, worded_when}
 use Rattle.check_types.specs.declared.places.Allowed.{Allowed}
@@ -25,8 +25,10 @@ use Rattle.check_types.specs.Written.{type_flaw}
 use Rattle.check_operands.specs.Made.{pair}
 use Rattle.check_operands.specs.Operands.{other_flaw, label_flaw, operand_flaw, value_flaw}
 use Rattle.check_instructions.specs.Addresses.{index_flaw}
-use Rattle.check_instructions.specs.Cases.{Case, case_flaw, case_kept, number_of, is_valued}
-use Rattle.check_instructions.specs.Phis.{Arm, arm_flaw, kept_arms}
+use Rattle.kept_parts.specs.CaseNumbers.{Case, case_kept, number_of}
+use Rattle.check_instructions.specs.Cases.{case_flaw, is_valued}
+use Rattle.kept_parts.specs.Arms.{Arm, kept_arms}
+use Rattle.check_instructions.specs.Phis.{arm_flaw}
 use Rattle.check_instructions.specs.Plain.{both_flaw, compared, is_left, extracted_flaw}
 use Rattle.check_constants.specs.Addresses.{number_at}
 use Rattle.check_constants.specs.Indices.{known}

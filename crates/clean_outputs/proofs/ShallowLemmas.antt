@@ -33,7 +33,7 @@ use Rattle.check_types.specs.Named.{named_type, type_of, is_endless}
 use Rattle.check_types.specs.Replaced.{layer_replaced, head_replaced, replaced_within, replaced}
 use Rattle.check_constants.specs.declared.intrinsics.Intrinsic.{Intrinsic}
 use Rattle.check_constants.specs.declared.intrinsics.Intrinsic.TheVariants.{Test, CheckedLoad, Assume, Trap, CodedTrap, Rotate}
-use Rattle.check_calls.specs.Callees.{called, called_intrinsic}
+use Rattle.kept_parts.specs.Called.{called, called_intrinsic}
 use Rattle.built_instructions.specs.Branches.{branch_kept, end_kept}
 use Rattle.built_instructions.specs.Calls.{plain_call, intrinsic_call, call_of, call_kept}
 use Rattle.built_instructions.specs.Instructions.{form_kept, instruction_of}

@@ -19,7 +19,7 @@ use Rattle.check_types.specs.Measures.{Measure, measure_step, named_measure, mea
 use Rattle.check_types.specs.Replaced.{layer_replaced, head_replaced, replaced}
 use Rattle.check_types.specs.Written.{Written, written_step, written, type_flaw, place_flaw, allows, is_allowed, is_void, is_integer, is_bit}
 use Rattle.check_types.specs.Written.{is_metadata_place, is_metadata_type, is_void_head}
-use Rattle.check_instructions.specs.Plain.{layer_width, width_of}
+use Rattle.kept_parts.specs.Widths.{layer_width, width_of}
 use Rattle.built_instructions.specs.Values.{width_or, width_at}
 use Rattle.type_grammar.specs.Levels.{levels}
 use Rattle.printed_units.specs.Written.{TyLayer, IsTy, IsTyWithin}

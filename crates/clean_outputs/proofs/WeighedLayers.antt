@@ -14,7 +14,7 @@ use Rattle.ir_values.specs.declared.constants.Const.TheVariants as const
 use Rattle.ir_values.specs.declared.constants.Const.TheVariants.{outs-Int, outs-Null, outs-Addr, outs-Zero, outs-Number}
 use Rattle.ir_values.specs.declared.constants.Const.TheOpen.{Const-F}
 use Rattle.ir_values.specs.declared.constants.Operand.{Operand}
-use Rattle.ir_values.specs.Numbers.{bits}
+use Rattle.ir_numbers.specs.Numbers.{bits}
 use Rattle.check_names.specs.Flaws.{when, worded_when}
 use Rattle.check_types.specs.declared.places.Allowed.TheVariants.{NonVoid}
 use Rattle.check_types.specs.Replaced.{replaced}

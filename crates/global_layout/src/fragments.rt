@@ -16,7 +16,7 @@ use std::alloc::Global;
 use std::collections::{BTreeMap, BTreeSet};
 
 // A fragment outside the others: its objects in their order, and the label that each of them has.
-#[derive(Debug, Drop)]
+#[derive(Drop)]
 struct Joint {
     objects: Row,
     label: usize,

@@ -1,7 +1,7 @@
 use ltt_base::List;
 
 /// Where an object stands: in the combined variable or table of a number, so many bytes from its start.
-#[derive(Debug, Clone, Copy, PartialEq, Eq)]
+#[derive(Clone, Copy, PartialEq, Eq)]
 pub struct Home {
     pub table: bool,
     pub number: u32,
@@ -11,7 +11,7 @@ pub struct Home {
 /// A combined variable, or a table of functions.
 ///
 /// `length` is in bytes. Combined variables and tables are numbered apart, from 0, in the order of the groups.
-#[derive(Debug, Drop)]
+#[derive(Drop)]
 pub struct Group {
     pub table: bool,
     pub members: List<u32>,

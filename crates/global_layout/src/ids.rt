@@ -1,13 +1,13 @@
 use ltt_base::List;
 
 /// The objects that carry one identifier, by their numbers, which rise.
-#[derive(Debug, Drop)]
+#[derive(Drop)]
 pub struct IdMembers {
     pub members: List<u32>,
 }
 
 /// What the layout needs of an object: bytes of its own, and bytes needed before and behind it.
-#[derive(Debug, Clone, Copy)]
+#[derive(Clone, Copy)]
 pub struct Shape {
     pub function: bool,
     pub extent: u64,

@@ -9,7 +9,7 @@ use ltt_base::{Code, Fault, List, Memory, Place, Refusal, Text};
 use std::alloc::Global;
 
 /// The combined variables and tables of all objects that an identifier lists, and where each object stands.
-#[derive(Debug, Drop)]
+#[derive(Drop)]
 pub struct Layout {
     groups: List<Group>,
     homes: List<Option<Home>>,

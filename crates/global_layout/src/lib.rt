@@ -10,8 +10,6 @@ mod owners;
 mod placing;
 mod row;
 mod slots;
-#[cfg(test)]
-mod tests;
 
 pub use groups::{Group, Home};
 pub use ids::{IdMembers, Shape};

@@ -9,7 +9,7 @@ use std::alloc::Global;
 //
 // A fragment that is joined to a longer one gives its objects the label of that one, so that the longer one's
 // objects keep theirs while the number changes. `names` has the label that a fragment's number was given to.
-#[derive(Debug, Drop)]
+#[derive(Drop)]
 pub struct Owners {
     pub labels: Vec<Option<usize>>,
     pub numbers: Vec<usize>,

@@ -8,7 +8,7 @@ use ltt_base::{Copied, List, Memory};
 use std::alloc::Global;
 
 // The groups of some fragments, the homes of their objects, and the bytes of all combined variables.
-#[derive(Debug, Drop)]
+#[derive(Drop)]
 pub struct Placing {
     pub groups: List<Group>,
     pub homes: List<Option<Home>>,

@@ -6,7 +6,7 @@ use std::collections::VecDeque;
 use std::marker::Model;
 
 // The objects of a fragment, in a row that grows at both ends.
-#[derive(Debug, Drop)]
+#[derive(Drop)]
 pub struct Row {
     objects: VecDeque<u32>,
 }

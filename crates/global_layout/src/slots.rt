@@ -10,7 +10,7 @@ use ltt_base::{List, Memory};
 pub const MOST_BYTES: u64 = 134_217_727;
 
 // A combined variable or a table with some of its objects: its end, its alignment, and the homes so far.
-#[derive(Debug, Drop)]
+#[derive(Drop)]
 pub struct Slots {
     pub length: u64,
     pub align: u64,

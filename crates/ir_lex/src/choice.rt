@@ -10,14 +10,14 @@ use crate::length::length_of;
 use crate::token::Kind;
 
 /// A token to be: its kind and its length.
-#[derive(Debug, Clone, Copy)]
+#[derive(Clone, Copy)]
 pub struct Cut {
     pub kind: Kind,
     pub len: usize,
 }
 
 /// What a byte can begin: the tokens that can stand at it, if any, are of few kinds.
-#[derive(Debug, Clone, Copy)]
+#[derive(Clone, Copy)]
 pub enum First {
     Letter,
     Digit,

@@ -10,8 +10,6 @@ mod length;
 mod lexer;
 mod place;
 mod table;
-#[cfg(test)]
-mod tests;
 mod token;
 
 pub use laws::{lines_tell_first, readings_agree, readings_end, stucks_agree, words_stand_once};

@@ -7,7 +7,7 @@ use ltt_base::Place;
 ///
 /// Source: LLVM Language Reference, "Identifiers" and "String constants"; LLVM's `LLLexer`. Differs: the exact
 /// languages are those of docs/language.md, "Tokens"; what that leaves out begins no token.
-#[derive(Debug, Clone, Copy)]
+#[derive(Clone, Copy)]
 pub enum Kind {
     /// `define`, `i32`, `x`
     Word,
@@ -44,7 +44,7 @@ pub enum Kind {
 }
 
 /// A token: its kind, the bytes from `start` up to `end` of the text, each counted from 0, and its first byte's place.
-#[derive(Debug, Clone, Copy)]
+#[derive(Clone, Copy)]
 pub struct Token {
     pub kind: Kind,
     pub start: usize,

@@ -6,7 +6,7 @@ use Rattle.ir_values.specs.declared.constants.Operand.{Operand}
 use Rattle.ir_values.specs.declared.constants.Operand.TheVariants.{outs-Reg, outs-Const}
 use Rattle.ir_values.specs.declared.constants.Const.{Const}
 use Rattle.ir_values.specs.declared.constants.Const.TheVariants.{outs-Int, outs-Null, outs-Addr, outs-Number}
-use Rattle.ir_values.specs.Numbers.{bits}
+use Rattle.ir_numbers.specs.Numbers.{bits}
 use Rattle.ir_memories.specs.Model.{Model}
 use Rattle.ir_memories.specs.declared.values.Value.TheVariants.{Int, Ptr}
 use Rattle.ir_meaning.specs.declared.states.Frame.{Frame}

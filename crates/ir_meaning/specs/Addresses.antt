@@ -5,9 +5,9 @@ use Rattle.ir_values.specs.declared.types.Ty.{Ty, out-Ty}
 use Rattle.ir_values.specs.declared.types.Ty.TheOpen.{Ty-F}
 use Rattle.ir_values.specs.declared.constants.Operand.{Operand}
 use Rattle.ir_values.specs.declared.instructions.CastOp.{CastOp}
-use Rattle.ir_values.specs.Numbers.{bits}
-use Rattle.ir_values.specs.Arithmetic.{converted}
-use Rattle.ir_values.specs.Layout.{layout, field_offsets}
+use Rattle.ir_numbers.specs.Numbers.{bits}
+use Rattle.ir_numbers.specs.Arithmetic.{converted}
+use Rattle.ir_numbers.specs.Layout.{layout, field_offsets}
 use Rattle.ir_memories.specs.Model.{Model}
 use Rattle.ir_memories.specs.declared.values.Value.{Value}
 use Rattle.ir_memories.specs.declared.values.Value.TheVariants.{Ptr}

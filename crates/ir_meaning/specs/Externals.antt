@@ -6,7 +6,7 @@ use Rattle.ir_values.specs.declared.types.FuncTy.{FuncTy}
 use Rattle.ir_values.specs.declared.constants.Operand.{Operand}
 use Rattle.ir_values.specs.declared.instructions.Callee.{Callee}
 use Rattle.ir_values.specs.declared.modules.Module.{Module}
-use Rattle.ir_values.specs.Numbers.{bits}
+use Rattle.ir_numbers.specs.Numbers.{bits}
 use Rattle.type_metadata.specs.declared.objects.Object.{Object}
 use Rattle.ir_memories.specs.Model.{Model}
 use Rattle.ir_memories.specs.declared.values.Value.{Value}

@@ -9,8 +9,8 @@ use Rattle.ir_values.specs.declared.modules.TypeId.{TypeId}
 use Rattle.ir_values.specs.declared.instructions.BinOp.{BinOp}
 use Rattle.ir_values.specs.declared.instructions.Pred.{Pred}
 use Rattle.ir_values.specs.declared.instructions.CastOp.{CastOp}
-use Rattle.ir_values.specs.Numbers.{bits}
-use Rattle.ir_values.specs.Arithmetic.{arith, compared, converted}
+use Rattle.ir_numbers.specs.Numbers.{bits}
+use Rattle.ir_numbers.specs.Arithmetic.{arith, compared, converted}
 use Rattle.ir_memories.specs.Model.{Model}
 use Rattle.ir_memories.specs.declared.values.Value.{Value}
 use Rattle.ir_memories.specs.declared.values.Value.TheVariants.{Int, Ptr, Pair}

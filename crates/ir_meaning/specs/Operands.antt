@@ -5,7 +5,7 @@ use Rattle.ir_values.specs.declared.types.Width.{Width}
 use Rattle.ir_values.specs.declared.constants.Operand.{Operand, out-Operand}
 use Rattle.ir_values.specs.declared.constants.Const.{Const, out-Const}
 use Rattle.ir_values.specs.declared.constants.Const.TheOpen.{Const-F, Operand-F}
-use Rattle.ir_values.specs.Numbers.{bits}
+use Rattle.ir_numbers.specs.Numbers.{bits}
 use Rattle.ir_memories.specs.Model.{Model}
 use Rattle.ir_memories.specs.declared.values.Value.{Value}
 use Rattle.ir_memories.specs.declared.values.Value.TheVariants.{Int, Ptr}

@@ -5,7 +5,7 @@ use Rattle.ir_values.specs.declared.types.Ty.TheOpen.{Ty-F}
 use Rattle.ir_values.specs.declared.types.Width.{Width}
 use Rattle.ir_values.specs.declared.modules.Module.{Module}
 use Rattle.ir_values.specs.declared.modules.Func.{Func}
-use Rattle.ir_values.specs.Numbers.{bits}
+use Rattle.ir_numbers.specs.Numbers.{bits}
 use Rattle.type_metadata.specs.declared.objects.Object.{Object}
 use Rattle.ir_memories.specs.Model.{Model}
 use Rattle.ir_memories.specs.declared.values.Value.{Value}

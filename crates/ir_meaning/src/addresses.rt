@@ -1,13 +1,14 @@
 ghost use Rattle.std.specs.Prelude.{◌≡◌, ◌%◌, ◌^◌, ◌<◌};
 ghost use Rattle.std.specs.Option.{option_copied};
 ghost use Rattle.ir_values.specs.declared.types.Ty.{out-Ty};
-ghost use Rattle.ir_values.specs.Numbers.{bits};
+ghost use Rattle.ir_numbers.specs.Numbers.{bits};
 ghost use Rattle.ir_meaning.specs.Addresses.{extended, scaled, offset_in, part_in, index_of, offset_behind, offset_of, address_at};
 
 use crate::operands::{integer_of, pointer_of};
 use crate::states::Frame;
 use ir_memories::{Memory, Value};
-use ir_values::{CastOp, Operand, Ty, Width, cast, field_at, is_laid_out, size_of};
+use ir_numbers::{cast, field_at, is_laid_out, size_of};
+use ir_values::{CastOp, Operand, Ty, Width};
 
 /// An index as a number of 64 bits.
 fn extended(width: Width, n: u64) -> u64

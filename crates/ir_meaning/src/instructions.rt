@@ -1,13 +1,14 @@
 ghost use Rattle.std.specs.Prelude.{◌≡◌, ◌↔◌, IsTrue};
-ghost use Rattle.ir_values.specs.Numbers.{bits};
-ghost use Rattle.ir_values.specs.Arithmetic.{Casts};
+ghost use Rattle.ir_numbers.specs.Numbers.{bits};
+ghost use Rattle.ir_numbers.specs.Arithmetic.{Casts};
 ghost use Rattle.ir_meaning.specs.Instructions.{equality, is_cast, part_of, binary_at, compared_at, selected_at, converted_at, extracted_at, number_at, rotated_at, tested_at, loaded_at, loaded_if, checked_at};
 
 use crate::operands::{integer_of, pointer, pointer_of, truth_of, truth_value, value_of};
 use crate::registers::get;
 use crate::states::Frame;
 use ir_memories::{Memory, Value};
-use ir_values::{BinOp, CastOp, Operand, Pred, Ty, TypeId, Width, binary, bits, cast, compare};
+use ir_numbers::{binary, bits, cast, compare};
+use ir_values::{BinOp, CastOp, Operand, Pred, Ty, TypeId, Width};
 
 /// What an operation on two integers gives.
 pub fn binary_at<M: Memory>(

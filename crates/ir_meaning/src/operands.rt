@@ -1,12 +1,13 @@
 ghost use Rattle.std.specs.Prelude.{◌≡◌, ◌%◌, ◌^◌, ◌<◌, IfSome};
-ghost use Rattle.ir_values.specs.Numbers.{bits};
+ghost use Rattle.ir_numbers.specs.Numbers.{bits};
 ghost use Rattle.ir_meaning.specs.Operands.{truth_value, constant_value, value_of, integer, pointer, integer_of, pointer_of, truth_of};
 ghost use Rattle.ir_values.specs.declared.constants.Const.{out-Const};
 
 use crate::registers::get;
 use crate::states::Frame;
 use ir_memories::{Memory, Value};
-use ir_values::{Const, Operand, Width, bits};
+use ir_numbers::bits;
+use ir_values::{Const, Operand, Width};
 
 /// A truth value as a value of one bit.
 pub fn truth_value<P: Copy>(holds: bool) -> Value<P>

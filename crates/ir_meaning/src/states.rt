@@ -4,7 +4,7 @@ use std::alloc::Global;
 
 /// How a run stands. `Starved`: a call of an external function wants an answer, and none is left.
 /// `Undefined`: the step has no meaning.
-#[derive(Debug, Clone, Copy, PartialEq, Eq)]
+#[derive(Clone, Copy, PartialEq, Eq)]
 pub enum Status {
     Running,
     Returned,

@@ -5,8 +5,8 @@ use Rattle.ir_values.specs.declared.types.Width.{Width}
 use Rattle.ir_values.specs.declared.types.Width.TheVariants.{W64}
 use Rattle.ir_values.specs.declared.types.Ty.{out-Ty}
 use Rattle.ir_values.specs.declared.types.Ty.TheVariants.{outs-Int, outs-Ptr}
-use Rattle.ir_values.specs.Layout.{width_bytes}
-use Rattle.ir_values.specs.Numbers.{bits}
+use Rattle.ir_numbers.specs.Layout.{width_bytes}
+use Rattle.ir_numbers.specs.Numbers.{bits}
 use Rattle.ir_memories.specs.declared.values.Value.{Value}
 use Rattle.ir_memories.specs.declared.values.Value.TheVariants as value
 use Rattle.ir_memories.specs.declared.numeric.Row.{Row}

@@ -5,8 +5,8 @@ use Rattle.std.proofs.lemmas.Nat.{shr-shr, mod-pow-add}
 use Rattle.ir_values.specs.declared.types.Width.{Width}
 use Rattle.ir_values.specs.declared.types.Width.TheVariants.{W1, W8, W16, W32, W64}
 use Rattle.ir_values.specs.declared.types.Ty.TheVariants.{outs-Int, outs-Ptr}
-use Rattle.ir_values.specs.Layout.{width_bytes}
-use Rattle.ir_values.specs.Numbers.{bits}
+use Rattle.ir_numbers.specs.Layout.{width_bytes}
+use Rattle.ir_numbers.specs.Numbers.{bits}
 use Rattle.type_metadata.specs.declared.objects.Object.{Object}
 use Rattle.type_metadata.proofs.SameLaws.{object_same, and_both}
 use Rattle.ir_memories.specs.declared.values.Value.{Value}

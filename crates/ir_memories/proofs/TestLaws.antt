@@ -7,7 +7,7 @@ use Rattle.ir_values.specs.declared.types.Ty as ty
 use Rattle.ir_values.specs.declared.types.Ty.{fold-roll-Ty}
 use Rattle.ir_values.specs.declared.types.Ty.TheOpen.{Ty-F}
 use Rattle.ir_values.specs.declared.types.Ty.TheVariants.{rolls-Int}
-use Rattle.ir_values.specs.Layout.{Layout, layout, layout_step, scalar, IsLaidOut}
+use Rattle.ir_numbers.specs.Layout.{Layout, layout, layout_step, scalar, IsLaidOut}
 use Rattle.ir_values.specs.declared.modules.TypeId.{TypeId}
 use Rattle.ir_values.specs.declared.modules.Module.{Module}
 use Rattle.type_metadata.specs.declared.objects.Object.{Object}

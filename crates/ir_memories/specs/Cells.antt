@@ -5,7 +5,7 @@ use Rattle.ir_values.specs.declared.types.Width.{Width}
 use Rattle.ir_values.specs.declared.types.Width.TheVariants.{W1, W8, W16, W32, W64}
 use Rattle.ir_values.specs.declared.types.Ty.{Ty, out-Ty}
 use Rattle.ir_values.specs.declared.types.Ty.TheOpen.{Ty-F}
-use Rattle.ir_values.specs.Layout.{width_bytes}
+use Rattle.ir_numbers.specs.Layout.{width_bytes}
 use Rattle.type_metadata.specs.Same.{same_object}
 use Rattle.ir_memories.specs.declared.values.Value.{Value}
 use Rattle.ir_memories.specs.declared.values.Value.TheVariants as value

@@ -3,7 +3,7 @@ use Rattle.std.specs.Prelude.{ℕ, ◌-◌, ◌%◌, max, List, [], ◌∷◌, �
 use Rattle.ir_values.specs.declared.types.Ty.{Ty}
 use Rattle.ir_values.specs.declared.constants.Const.{Const, fold-Const}
 use Rattle.ir_values.specs.declared.constants.Const.TheOpen.{Const-F}
-use Rattle.ir_values.specs.Layout.{layout}
+use Rattle.ir_numbers.specs.Layout.{layout}
 use Rattle.type_metadata.specs.declared.items.Item.{Item}
 use Rattle.ir_memories.specs.declared.values.Value.{Value}
 use Rattle.ir_memories.specs.declared.values.Value.TheVariants as value

@@ -15,7 +15,7 @@ use Rattle.type_metadata.specs.Types.{IsCarrier, AreTypes}
 use Rattle.ir_memories.specs.declared.symbolic.SPtr.TheVariants.{Null, At}
 use Rattle.ir_memories.specs.declared.symbolic.Symbolic.{Symbolic}
 use Rattle.ir_values.specs.declared.types.Ty.{Ty}
-use Rattle.ir_values.specs.Numbers.{bits}
+use Rattle.ir_numbers.specs.Numbers.{bits}
 use Rattle.ir_memories.specs.declared.values.Value.{Value}
 use Rattle.ir_memories.specs.declared.values.Value.TheVariants as value
 use Rattle.ir_memories.specs.declared.symbolic.SPtr.{SPtr}

@@ -7,7 +7,7 @@ use Rattle.ir_values.specs.declared.types.Width.{Width}
 use Rattle.ir_values.specs.declared.types.Width.TheVariants.{W64}
 use Rattle.ir_values.specs.declared.types.Ty.{Ty, out-Ty}
 use Rattle.ir_values.specs.declared.types.Ty.TheOpen.{Ty-F}
-use Rattle.ir_values.specs.Layout.{width_bytes}
+use Rattle.ir_numbers.specs.Layout.{width_bytes}
 use Rattle.ir_values.specs.declared.modules.Block.{Block}
 use Rattle.ir_values.specs.declared.modules.Var.{Var}
 use Rattle.ir_values.specs.declared.modules.Func.{Func}

@@ -3,7 +3,7 @@ use Rattle.std.specs.Prelude.{◌≢◌, ℕ, ◌+◌, ◌^◌, ◌<◌, ◌≤�
 use Rattle.std.specs.Int.{next_multiple_of}
 use Rattle.ir_values.specs.declared.modules.Func.{Func}
 use Rattle.ir_values.specs.declared.modules.Module.{Module}
-use Rattle.ir_values.specs.Layout.{IsLaidOut}
+use Rattle.ir_numbers.specs.Layout.{IsLaidOut}
 use Rattle.type_metadata.specs.Same.{same_flag}
 use Rattle.ir_memories.specs.Placement.{Placeable, Placement, IsPlaced, of_variable, of_table, of_function, placeables}
 use Rattle.ir_memories.specs.Numeric.{rows_at, base_of, is_external}

@@ -3,7 +3,7 @@ use Rattle.std.specs.Prelude.{ℕ, ◌+◌, true, List, [], ◌∷◌, ◌++◌,
 use Rattle.ir_values.specs.declared.modules.Var.{Var}
 use Rattle.ir_values.specs.declared.modules.Func.{Func}
 use Rattle.ir_values.specs.declared.modules.Module.{Module}
-use Rattle.ir_values.specs.Layout.{IsLaidOut}
+use Rattle.ir_numbers.specs.Layout.{IsLaidOut}
 use Rattle.type_metadata.specs.declared.items.Item.{Item}
 use Rattle.type_metadata.specs.declared.types.Types.{Types}
 use Rattle.type_metadata.specs.Carriers.{extent_of}

@@ -1,16 +1,17 @@
 ghost use Rattle.std.specs.Prelude.{◌≡◌, ◌+◌, ◌*◌, ◌^◌, ◌<◌, ◌≤◌, length, IfSome};
 ghost use Rattle.std.specs.Option.{option_copied};
-ghost use Rattle.ir_values.specs.Layout.{width_bytes};
+ghost use Rattle.ir_numbers.specs.Layout.{width_bytes};
 ghost use Rattle.ir_memories.specs.Cells as held;
 
 use crate::symbolic::SPtr;
 use crate::values::Value;
-use ir_values::{Ty, Width, bits};
+use ir_numbers::bits;
+use ir_values::{Ty, Width};
 use ltt_base::List;
 use type_metadata::is_same_object;
 
 /// A byte, or byte k of a pointer.
-#[derive(Debug, Clone, Copy)]
+#[derive(Clone, Copy)]
 pub enum Cell {
     Byte(u8),
     Part(SPtr, u8),

@@ -8,13 +8,14 @@ ghost use Rattle.ir_memories.specs.Images as images;
 use crate::cells::{Cell, cell_at, cells_in};
 use crate::symbolic::{SPtr, pointer_to};
 use crate::values::Value;
-use ir_values::{Const, Ty, align_of, is_laid_out, size_of};
+use ir_numbers::{align_of, is_laid_out, size_of};
+use ir_values::{Const, Ty};
 use ltt_base::{List, Memory};
 use std::alloc::Global;
 use type_metadata::Listing;
 
 /// The cells of a constant, and the alignment that it has in a struct.
-#[derive(Debug, Drop)]
+#[derive(Drop)]
 pub struct Image {
     pub align: u64,
     pub cells: List<Cell>,

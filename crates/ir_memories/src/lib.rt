@@ -9,8 +9,6 @@ mod numeric;
 mod placing;
 mod stated;
 mod symbolic;
-#[cfg(test)]
-mod tests;
 mod values;
 mod worlds;
 

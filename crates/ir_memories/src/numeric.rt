@@ -11,7 +11,7 @@ use ltt_base::{Copied, List, Text};
 use std::alloc::Global;
 
 /// An object of an output: its name and address. A call of the address plus 8k leads to goal k of `leads`.
-#[derive(Debug, Drop)]
+#[derive(Drop)]
 pub struct Row {
     pub name: Text,
     pub base: u64,
@@ -20,7 +20,7 @@ pub struct Row {
 }
 
 /// The memory of an output: its objects in printed order, and the cells of its variables, which come first.
-#[derive(Debug, Drop)]
+#[derive(Drop)]
 pub struct Numeric {
     pub rows: List<Row>,
     pub cells: List<List<Cell>>,

@@ -1,17 +1,18 @@
 // The stated placement of an output.
 ghost use Rattle.std.specs.Prelude.{◌≡◌, ◌++◌, ◌≤◌, ◌<◌, ◌^◌, IfOk, OnOk, All, length, map};
-ghost use Rattle.ir_values.specs.Layout.{IsLaidOut};
+ghost use Rattle.ir_numbers.specs.Layout.{IsLaidOut};
 ghost use Rattle.ir_memories.specs.Placement.{of_variable, of_table, of_function};
 ghost use Rattle.ir_memories.specs.Stated as placement;
 
 use crate::placing::is_external;
 use crate::values::NoMemory;
-use ir_values::{Func, Jump, Module, Var, size_of};
+use ir_numbers::size_of;
+use ir_values::{Func, Jump, Module, Var};
 use ltt_base::{List, Memory};
 use std::alloc::Global;
 
 /// What an object takes: its bytes, and the alignment of its address.
-#[derive(Debug, Clone, Copy)]
+#[derive(Clone, Copy)]
 pub struct Room {
     pub size: u64,
     pub align: u64,

@@ -14,7 +14,7 @@ use type_metadata::{Denoted, Item, Listing, Object, Types, is_same_object};
 /// A pointer of the source: null, or an object and an offset modulo 2^64.
 ///
 /// Null moved by a sum other than 0 is that offset in `NOWHERE`, an object without extent.
-#[derive(Debug, Clone, Copy)]
+#[derive(Clone, Copy)]
 pub enum SPtr {
     Null,
     At(Object, u64),
@@ -28,7 +28,7 @@ pub(crate) const NOWHERE: Object = Object {
 };
 
 /// What an item holds: `cells` are those of a variable that is defined.
-#[derive(Debug, Drop)]
+#[derive(Drop)]
 pub struct Space {
     pub extent: u64,
     pub constant: bool,
@@ -36,7 +36,7 @@ pub struct Space {
 }
 
 /// The memory of source modules: their items, and beside each what it holds.
-#[derive(Debug, Drop)]
+#[derive(Drop)]
 pub struct Symbolic {
     pub items: Listing,
     pub spaces: List<Space>,

@@ -3,11 +3,11 @@ use ltt_base::Text;
 use type_metadata::Object;
 
 /// Want of memory. `Memory` is here the name of the trait.
-#[derive(Debug, Clone, Copy)]
+#[derive(Clone, Copy)]
 pub struct NoMemory;
 
 /// A value: an integer of a width, a pointer, or the result of a checked load.
-#[derive(Debug, Clone, Copy)]
+#[derive(Clone, Copy)]
 pub enum Value<P: Copy> {
     Int(Width, u64),
     Ptr(P),
@@ -15,7 +15,7 @@ pub enum Value<P: Copy> {
 }
 
 /// What a called pointer leads to: a function that a module defines, or an external one by its name.
-#[derive(Debug, Drop)]
+#[derive(Drop)]
 pub enum Goal {
     Defined(Object),
     External(Text),

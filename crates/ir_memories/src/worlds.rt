@@ -1,6 +1,6 @@
 // The memory that source modules begin with.
 ghost use Rattle.std.specs.Prelude.{◌≡◌, ◌++◌, ◌<◌, ◌^◌, length, IfOk, OnOk, map, All};
-ghost use Rattle.ir_values.specs.Layout.{IsLaidOut};
+ghost use Rattle.ir_numbers.specs.Layout.{IsLaidOut};
 ghost use Rattle.ir_memories.specs.Worlds as worlds;
 
 use crate::images::{Source, cells_of};

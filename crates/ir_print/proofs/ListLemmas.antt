@@ -1,9 +1,8 @@
 -- Lists that are put item by item.
-use Rattle.std.proofs.Common.{◌≡◌, suc, refl, sym, ◌∙◌, ap, subst, ℕ, ◌+◌, ◌<◌, ◌≤◌, min, List, [], ◌∷◌, ◌++◌, length, take, get_or, map, codes, add-one, arith, length-append, append_assoc}
+use Rattle.std.proofs.Common.{◌≡◌, suc, refl, sym, ◌∙◌, ap, ℕ, ◌+◌, ◌<◌, List, [], ◌∷◌, ◌++◌, length, take, get_or, map, codes, add-one, arith, append_assoc}
 use Rattle.std.specs.List.{flat_map}
-use Rattle.std.proofs.Math.Seq.{take-length}
 use Rattle.std.proofs.lemmas.Bool.Decides.{nat_tests}
-use Rattle.std.proofs.lemmas.Grind.{common_steps, flat_map-append}
+use Rattle.std.proofs.lemmas.Grind.{common_steps}
 use Rattle.std.proofs.lemmas.List.{take_more, append-nil}
 use Rattle.ir_values.specs.declared.types.Ty.{Ty}
 use Rattle.ir_values.specs.declared.constants.Const
@@ -14,17 +13,15 @@ use Rattle.ir_values.specs.declared.constants.Operand.{Operand}
 use Rattle.ir_print.specs.Constants.{Printed, const_step, operand_step, const_printed, operand_printed, indices_text, index_text}
 use Rattle.ir_print.specs.Pieces.{joined, commas, after_commas, spaces, after_spaces}
 use Rattle.ir_print.specs.Printing.{comma_at, space_at}
-use Rattle.ir_print.specs.Puts.{State, Puts}
+use Rattle.ir_names.specs.Puts.{State, Puts}
 use Rattle.ir_print.specs.Types.{behind_types}
-use Rattle.ir_print.proofs.PutLemmas.{puts-then, puts-as}
+use Rattle.ir_names.proofs.PutLemmas.{puts-then, puts-as}
+use Rattle.ir_names.proofs.FlatLemmas.{flat_map-last, next-flat}
 
 pub joined-map : {X : Type 0} (text : X → List ℕ) (items : List X) → flat_map text items ≡ joined (map text items)
 joined-map text [] = refl
 joined-map text (item ∷ []) = append-nil (text item)
 joined-map text (item ∷ next ∷ items) = ap (λ rest. text item ++ rest) (joined-map text (next ∷ items))
-
-pub flat_map-last : {X : Type 0} (text : X → List ℕ) (items : List X) (item : X) → flat_map text (items ++ (item ∷ [])) ≡ flat_map text items ++ text item
-flat_map-last text items item = flat_map-append text items (item ∷ []) ∙ ap (λ end. flat_map text items ++ end) (append-nil (text item))
 
 pub comma-later : (n : ℕ) → comma_at (n + 1) ≡ codes ", "
 comma-later n = grind (arith, nat_tests)
@@ -68,11 +65,6 @@ length-behind text [] (first ∷ items) = ap (λ n. suc n) (length-behind text [
 length-behind text (ty ∷ types) (first ∷ items) = ap (λ n. suc n) (length-behind text types items)
 
 -- an item more, of items that stand one behind the other, with commas, with spaces and behind types
-pub next-flat : {X : Type 0} {a b c : State} (text : X → List ℕ) (items : List X) (i : ℕ) (d : X) → i < length items
-    → Puts a b (flat_map text (take i items)) → Puts b c (text (get_or items i d)) → Puts a c (flat_map text (take (i + 1) items))
-next-flat text items i d h p q =
-    puts-as (sym (ap (flat_map text) (take_more items i d h) ∙ flat_map-last text (take i items) (get_or items i d))) (puts-then p q)
-
 pub next-comma : {X : Type 0} {a b c : State} (text : X → List ℕ) (items : List X) (i : ℕ) (d : X) → i < length items
     → Puts a b (commas (map text (take i items))) → Puts b c (comma_at i ++ text (get_or items i d)) → Puts a c (commas (map text (take (i + 1) items)))
 next-comma text items i d h p q =

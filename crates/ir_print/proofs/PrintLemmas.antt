@@ -1,12 +1,12 @@
 -- A whole text, once nothing waits any more.
-use Rattle.std.proofs.Common.{◌≡◌, sym, ◌∙◌, ap, ℕ, Bool, true, false, List, [], ◌++◌, take, drop, Ok, Err, append-nil, arith}
+use Rattle.std.proofs.Common.{◌≡◌, sym, ◌∙◌, ap, ℕ, true, false, List, [], ◌++◌, take, drop, Ok, Err, append-nil, arith}
 use Rattle.std.proofs.lemmas.List.{take-append-drop}
 use Rattle.std.specs.Io.KnownBytes.{append_known}
 use Rattle.ltt_base.specs.Outside.{Took, TookPart}
 use Rattle.ir_print.specs.declared.printing.PrintFault.{PrintFault}
 use Rattle.ir_print.specs.Printing.{Prints}
-use Rattle.ir_print.specs.Puts.{State, Puts}
-use Rattle.ir_print.proofs.PutLemmas.{puts-then, puts-as}
+use Rattle.ir_names.specs.Puts.{State, Puts}
+use Rattle.ir_names.proofs.PutLemmas.{puts-then, puts-as}
 
 pub whole : (a c : State) (text : List ℕ) → a.buffer ≡ [] → Puts a c text → a.failed ≡ false → c.failed ≡ false → c.buffer ≡ [] → Took a.taken c.taken text
 whole a c text none p ok still sent =

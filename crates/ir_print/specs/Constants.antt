@@ -7,8 +7,8 @@ use Rattle.ir_values.specs.declared.constants.Const.{Const, fold-Const}
 use Rattle.ir_values.specs.declared.constants.Const.TheOpen.{Const-F, Operand-F}
 use Rattle.ir_values.specs.declared.constants.Operand.{Operand, fold-Operand}
 use Rattle.ir_print.specs.Pieces.{commas, after_commas}
-use Rattle.ir_print.specs.Names.{quoted, global_text, local_text}
-use Rattle.ir_print.specs.Numbers.{integer_text}
+use Rattle.ir_names.specs.Names.{quoted, global_text, local_text}
+use Rattle.ir_names.specs.Numbers.{integer_text}
 use Rattle.ir_print.specs.Types.{ty_text, behind_types}
 
 -- The two ways in which a constant is printed, each for the type that its place gives it.

@@ -11,8 +11,8 @@ use Rattle.ir_values.specs.declared.instructions.Callee.{Callee}
 use Rattle.ir_values.specs.declared.instructions.Inst.{Inst}
 use Rattle.ir_values.specs.declared.modules.TypeId.{TypeId}
 use Rattle.ir_print.specs.Pieces.{joined, commas, spaces}
-use Rattle.ir_print.specs.Names.{quoted, global_text, local_text}
-use Rattle.ir_print.specs.Numbers.{integer_text}
+use Rattle.ir_names.specs.Names.{quoted, global_text, local_text}
+use Rattle.ir_names.specs.Numbers.{integer_text}
 use Rattle.ir_print.specs.Types.{ty_text, width_text, pair_text, behind_types}
 use Rattle.ir_print.specs.Constants.{operand_text, typed_text}
 
@@ -132,6 +132,9 @@ inst_pieces Inst.Unreachable = codes "unreachable" ∷ []
 inst_pieces (Inst.Trap code) = trap_pieces code
 inst_pieces (Inst.Test dst ptr id) =
     local_text dst ∷ codes " = call i1 @llvm.type.test(" ∷ typed_text Ty.Ptr ptr ∷ codes ", metadata " ∷
+    id_text id ∷ codes ")" ∷ []
+inst_pieces (Inst.PublicTest dst ptr id) =
+    local_text dst ∷ codes " = call i1 @llvm.public.type.test(" ∷ typed_text Ty.Ptr ptr ∷ codes ", metadata " ∷
     id_text id ∷ codes ")" ∷ []
 inst_pieces (Inst.Assume cond) =
     codes "call void @llvm.assume(" ∷ typed_text (Ty.Int Width.W1) cond ∷ codes ")" ∷ []

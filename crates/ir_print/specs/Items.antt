@@ -9,7 +9,7 @@ use Rattle.ir_values.specs.declared.modules.Func.{Func}
 use Rattle.ir_values.specs.declared.modules.Var.{Var}
 use Rattle.ir_values.specs.declared.modules.Jump.{Jump}
 use Rattle.ir_print.specs.Pieces.{joined, commas}
-use Rattle.ir_print.specs.Names.{name_text, global_text, local_text}
+use Rattle.ir_names.specs.Names.{name_text, global_text, local_text}
 use Rattle.ir_print.specs.Types.{ty_text, behind_types}
 use Rattle.ir_print.specs.Constants.{typed_const_text}
 use Rattle.ir_print.specs.Instructions.{inst_text}

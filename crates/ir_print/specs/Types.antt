@@ -3,7 +3,7 @@ use Rattle.std.specs.Prelude.{ℕ, List, [], ◌∷◌, ◌++◌, codes, decimal
 use Rattle.ir_values.specs.declared.types.Width.{Width}
 use Rattle.ir_values.specs.declared.types.Ty.{Ty, fold-Ty}
 use Rattle.ir_values.specs.declared.types.Ty.TheOpen.{Ty-F}
-use Rattle.ir_print.specs.Names.{local_text}
+use Rattle.ir_names.specs.Names.{local_text}
 use Rattle.ir_print.specs.Pieces.{commas}
 
 abbrev pub width_text : Width → List ℕ

@@ -3,15 +3,13 @@ ghost use Rattle.std.specs.Prelude.{◌≡◌, ◌++◌, map, codes, get_or};
 ghost use Rattle.ir_values.specs.declared.types.Ty.{Ty};
 ghost use Rattle.ir_values.specs.declared.types.Ty.{out-Ty};
 ghost use Rattle.ir_print.specs.Constants as Spec;
-ghost use Rattle.ir_print.specs.Names.{local_text};
+ghost use Rattle.ir_names.specs.Names.{local_text};
 ghost use Rattle.ir_print.specs.Pieces.{commas};
-ghost use Rattle.ir_print.specs.Puts.{Puts};
+ghost use Rattle.ir_names.specs.Puts.{Puts};
 ghost use Rattle.ir_print.specs.Types as Types;
 
-use crate::names::{put_global, put_local, put_quoted};
-use crate::numbers::put_integer;
-use crate::output::Printer;
 use crate::types::{put_comma, put_ty};
+use ir_names::{Printer, put_global, put_integer, put_local, put_quoted};
 use ir_values::{Const, Operand, Ty, Width};
 
 /// Prints a constant of a type.

@@ -2,10 +2,10 @@
 ghost use Rattle.std.specs.Prelude.{List, ℕ};
 ghost use Rattle.ir_print.specs.Items.{var_text, table_text};
 ghost use Rattle.ir_print.specs.ModuleText as Spec;
-ghost use Rattle.ir_print.specs.Puts.{Puts};
+ghost use Rattle.ir_names.specs.Puts.{Puts};
 
 use crate::items::{put_declaration, put_definition, put_table, put_var};
-use crate::output::Printer;
+use ir_names::Printer;
 use ir_values::{Func, Jump, Var};
 
 /// A way of printing items of one sort.

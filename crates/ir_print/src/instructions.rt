@@ -4,16 +4,14 @@ ghost use Rattle.ir_values.specs.declared.instructions.Inst.{Inst};
 ghost use Rattle.ir_values.specs.declared.types.Width.{Width};
 ghost use Rattle.ir_print.specs.Constants.{typed_text};
 ghost use Rattle.ir_print.specs.Instructions as Spec;
-ghost use Rattle.ir_print.specs.Numbers.{integer_text};
-ghost use Rattle.ir_print.specs.Puts.{Puts};
+ghost use Rattle.ir_names.specs.Numbers.{integer_text};
+ghost use Rattle.ir_names.specs.Puts.{Puts};
 
 use crate::constants::{put_operand, put_typed};
 use crate::lists::{put_args, put_arms, put_cases, put_indices};
-use crate::names::put_local;
-use crate::numbers::{put_decimal, put_integer, put_signed_decimal};
-use crate::output::Printer;
 use crate::parts::{put_callee, put_cast, put_id, put_op, put_pred, put_sets, put_to};
 use crate::types::{put_pair, put_ty, put_width};
+use ir_names::{Printer, put_decimal, put_integer, put_local, put_signed_decimal};
 use ir_values::{BinOp, Callee, CastOp, FuncTy, Inst, Operand, Pred, Ty, TypeId, Width};
 use ltt_base::Text;
 
@@ -67,6 +65,7 @@ pub fn put_inst<P: Printer>(line: &mut P, inst: &Inst)
         Inst::Extract { dst, pair, part } => put_extract(line, dst.bytes(), pair.bytes(), *part),
         Inst::Phi { dst, ty, arms } => put_phi(line, dst.bytes(), ty, arms.items()),
         Inst::Test { dst, ptr, id } => put_test(line, dst.bytes(), ptr, id),
+        Inst::PublicTest { dst, ptr, id } => put_public_test(line, dst.bytes(), ptr, id),
         Inst::Assume { cond } => put_assume(line, cond),
         Inst::CheckedLoad {
             dst,
@@ -335,6 +334,18 @@ fn put_test<P: Printer>(line: &mut P, dst: &[u8], ptr: &Operand, id: &TypeId)
 {
     put_local(line, dst);
     line.put(b" = call i1 @llvm.type.test(");
+    put_typed(line, ptr, &Ty::Ptr);
+    line.put(b", metadata ");
+    put_id(line, id);
+    line.put(b")")
+}
+
+#[tactic(auto, unfolding(crate::specs::Instructions::inst_pieces))]
+fn put_public_test<P: Printer>(line: &mut P, dst: &[u8], ptr: &Operand, id: &TypeId)
+    ensures { Puts (P.state line.old) (P.state line.new) (Spec.inst_text (Inst.PublicTest dst.now ptr.now id.now)) }
+{
+    put_local(line, dst);
+    line.put(b" = call i1 @llvm.public.type.test(");
     put_typed(line, ptr, &Ty::Ptr);
     line.put(b", metadata ");
     put_id(line, id);

@@ -2,9 +2,9 @@
 ghost use Rattle.std.specs.Prelude.{◌≡◌, ◌++◌, true};
 ghost use Rattle.std.specs.List.{list_any};
 ghost use Rattle.ir_print.specs.ModuleText as Spec;
-ghost use Rattle.ir_print.specs.Puts.{Puts};
+ghost use Rattle.ir_names.specs.Puts.{Puts};
 
-use crate::output::Printer;
+use ir_names::Printer;
 use ir_values::{Block, Func, Inst, Module};
 
 /// An intrinsic that is declared where it is called: `llvm.fshr.i64`, `llvm.trap` or `llvm.ubsantrap`.

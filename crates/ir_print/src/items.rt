@@ -2,16 +2,14 @@
 ghost use Rattle.std.specs.Prelude.{◌++◌, codes, decimal, map, flat_map, get_or};
 ghost use Rattle.ir_values.specs.declared.types.Ty.{Ty};
 ghost use Rattle.ir_print.specs.Items as Spec;
-ghost use Rattle.ir_print.specs.Names.{global_text};
+ghost use Rattle.ir_names.specs.Names.{global_text};
 ghost use Rattle.ir_print.specs.Pieces.{commas};
-ghost use Rattle.ir_print.specs.Puts.{Puts};
+ghost use Rattle.ir_names.specs.Puts.{Puts};
 
 use crate::constants::put_typed_const;
 use crate::instructions::put_inst;
-use crate::names::{put_global, put_local, put_name};
-use crate::numbers::put_decimal;
-use crate::output::Printer;
 use crate::types::{put_comma, put_ty, put_types};
+use ir_names::{Printer, put_decimal, put_global, put_local, put_name};
 use ir_values::{Block, Const, Func, Inst, Jump, Linkage, Ty, Var};
 use ltt_base::Text;
 

@@ -4,14 +4,12 @@ ghost use Rattle.ir_values.specs.declared.types.Ty.{Ty};
 ghost use Rattle.ir_print.specs.Constants.{typed_text};
 ghost use Rattle.ir_print.specs.Instructions as Spec;
 ghost use Rattle.ir_print.specs.Pieces.{commas, spaces};
-ghost use Rattle.ir_print.specs.Puts.{Puts};
+ghost use Rattle.ir_names.specs.Puts.{Puts};
 
 use crate::constants::{put_operand, put_typed};
-use crate::names::put_local;
-use crate::numbers::put_integer;
-use crate::output::Printer;
 use crate::parts::put_to;
 use crate::types::{put_comma, put_space, put_width};
+use ir_names::{Printer, put_integer, put_local};
 use ir_values::{Operand, Ty, Width};
 use ltt_base::Text;
 

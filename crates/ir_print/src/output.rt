@@ -1,23 +1,10 @@
 // Text on its way to a sink, through a buffer.
 ghost use Rattle.std.specs.Prelude.{◌≡◌};
-ghost use Rattle.ir_print.specs.Puts.{State, Puts};
+ghost use Rattle.ir_names.specs.Puts.{Puts};
 
 use crate::buffer::Buffer;
+use ir_names::Printer;
 use ltt_base::{Failed, Sink, write_all};
-
-/// What takes text piece by piece.
-pub trait Printer {
-    /// What was taken, what waits, and whether the sink has failed.
-    ghost state: { Self → State };
-
-    /// Puts a piece behind the text so far. After a failure it does nothing.
-    fn put(&mut self, piece: &[u8])
-        ensures { Puts (state self.old) (state self.new) piece.now };
-
-    /// Whether the sink has failed.
-    fn has_failed(&self) -> bool
-        ensures { result ≡ (state self.now).failed };
-}
 
 /// A sink behind a buffer. Text goes to the sink where the buffer has no room left.
 #[derive(Drop)]

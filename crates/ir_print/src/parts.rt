@@ -1,13 +1,11 @@
 // The parts of instructions.
 ghost use Rattle.std.specs.Prelude.{codes, ◌++◌, decimal};
 ghost use Rattle.ir_print.specs.Instructions as Spec;
-ghost use Rattle.ir_print.specs.Names.{quoted, local_text};
-ghost use Rattle.ir_print.specs.Puts.{Puts};
+ghost use Rattle.ir_names.specs.Names.{quoted, local_text};
+ghost use Rattle.ir_names.specs.Puts.{Puts};
 
 use crate::constants::put_operand;
-use crate::names::{put_global, put_local, put_quoted};
-use crate::numbers::put_decimal;
-use crate::output::Printer;
+use ir_names::{Printer, put_decimal, put_global, put_local, put_quoted};
 use ir_values::{BinOp, Callee, CastOp, Pred, Ty, TypeId};
 use ltt_base::Text;
 

@@ -3,12 +3,13 @@ ghost use Rattle.std.specs.Prelude.{◌≡◌, ◌≤◌, [], false, flat_map, O
 ghost use Rattle.ltt_base.specs.Outside.{Rose, Took, TookPart};
 ghost use Rattle.ir_print.specs.ModuleText.{module_text};
 ghost use Rattle.ir_print.specs.Printing.{Prints};
-ghost use Rattle.ir_print.specs.Puts.{Puts};
+ghost use Rattle.ir_names.specs.Puts.{Puts};
 
 use crate::buffer::Buffer;
 use crate::forms::{Declarations, Definitions, Form, Tables, Variables};
 use crate::intrinsics::put_intrinsics;
-use crate::output::{Output, Printer};
+use crate::output::Output;
+use ir_names::Printer;
 use ir_values::Module;
 use ltt_base::Sink;
 use std::alloc::Global;

@@ -2,12 +2,10 @@
 ghost use Rattle.std.specs.Prelude.{◌≡◌, ◌++◌, map, codes};
 ghost use Rattle.ir_print.specs.Pieces.{commas};
 ghost use Rattle.ir_print.specs.Printing.{comma_at, space_at};
-ghost use Rattle.ir_print.specs.Puts.{Puts};
+ghost use Rattle.ir_names.specs.Puts.{Puts};
 ghost use Rattle.ir_print.specs.Types as Spec;
 
-use crate::names::put_local;
-use crate::numbers::put_decimal;
-use crate::output::Printer;
+use ir_names::{Printer, put_decimal, put_local};
 use ir_values::{Ty, Width};
 
 /// Prints a type.

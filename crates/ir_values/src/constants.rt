@@ -13,7 +13,7 @@ use std::alloc::Global;
 /// units and outputs.
 ///
 /// Source: LLVM Language Reference, "Constants".
-#[derive(Debug, Drop)]
+#[derive(Drop)]
 #[cycle(values)]
 pub enum Const {
     Int(Width, u64),
@@ -173,7 +173,7 @@ impl PartialEq for Const {
 }
 
 /// What an instruction reads: a register, by its name without `%`, or a constant.
-#[derive(Debug, Drop)]
+#[derive(Drop)]
 #[cycle(values)]
 pub enum Operand {
     Reg(Text),

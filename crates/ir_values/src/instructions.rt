@@ -10,7 +10,7 @@ use std::alloc::Global;
 /// An operation on two integers of one width.
 ///
 /// Source: LLVM Language Reference, "Binary Operations" and "Bitwise Binary Operations".
-#[derive(Debug, Clone, Copy, PartialEq, Eq)]
+#[derive(Clone, Copy, PartialEq, Eq)]
 pub enum BinOp {
     Add,
     Sub,
@@ -36,7 +36,7 @@ impl Same for BinOp {
 /// A comparison of two integers.
 ///
 /// Source: LLVM Language Reference, "'icmp' Instruction".
-#[derive(Debug, Clone, Copy, PartialEq, Eq)]
+#[derive(Clone, Copy, PartialEq, Eq)]
 pub enum Pred {
     Eq,
     Ne,
@@ -59,7 +59,7 @@ impl Same for Pred {
 /// A change of an integer's width.
 ///
 /// Source: LLVM Language Reference, "Conversion Operations".
-#[derive(Debug, Clone, Copy, PartialEq, Eq)]
+#[derive(Clone, Copy, PartialEq, Eq)]
 pub enum CastOp {
     Zext,
     Sext,
@@ -73,7 +73,7 @@ impl Same for CastOp {
 }
 
 /// What a call calls: a function by its name, or a pointer.
-#[derive(Debug, Drop)]
+#[derive(Drop)]
 pub enum Callee {
     Function(Text),
     Value(Operand),
@@ -122,11 +122,12 @@ impl PartialEq for Callee {
 
 /// An instruction. `dst` is the register that it sets.
 ///
+/// `Test` is `llvm.type.test`, and `PublicTest` `llvm.public.type.test`, which no module holds so far.
 /// `Number` is `ptrtoint ptr` to i64 and `Rotate` `llvm.fshr.i64` of one value twice: both stand in
 /// outputs alone.
 ///
 /// Source: LLVM Language Reference, "Instruction Reference" and "Intrinsic Functions".
-#[derive(Debug, Drop)]
+#[derive(Drop)]
 pub enum Inst {
     Binary {
         dst: Text,
@@ -211,6 +212,11 @@ pub enum Inst {
         code: Option<u8>,
     },
     Test {
+        dst: Text,
+        ptr: Operand,
+        id: TypeId,
+    },
+    PublicTest {
         dst: Text,
         ptr: Operand,
         id: TypeId,
@@ -365,6 +371,11 @@ impl Inst {
                 ptr: ptr.copy(alloc)?,
                 id: id.copy(alloc)?,
             }),
+            Inst::PublicTest { dst, ptr, id } => Ok(Inst::PublicTest {
+                dst: dst.copied(alloc)?,
+                ptr: ptr.copy(alloc)?,
+                id: id.copy(alloc)?,
+            }),
             Inst::Assume { cond } => Ok(Inst::Assume {
                 cond: cond.copy(alloc)?,
             }),
@@ -400,240 +411,249 @@ impl Copied for Inst {
 
 impl Same for Inst {
     fn is(&self, other: &Inst) -> bool {
-        match (self, other) {
-            (
-                Inst::Binary {
-                    dst,
-                    op,
-                    width,
-                    a,
-                    b,
-                },
+        match self {
+            Inst::Binary {
+                dst,
+                op,
+                width,
+                a,
+                b,
+            } => match other {
                 Inst::Binary {
                     dst: other_dst,
                     op: other_op,
                     width: other_width,
                     a: other_a,
                     b: other_b,
-                },
-            ) => {
-                dst.is(other_dst)
+                } => dst.is(other_dst)
                     && op.is(other_op)
                     && width.is(other_width)
                     && a.is(other_a)
-                    && b.is(other_b)
-            }
-            (
-                Inst::Compare {
-                    dst,
-                    pred,
-                    ty,
-                    a,
-                    b,
-                },
+                    && b.is(other_b),
+                _ => false,
+            },
+            Inst::Compare {
+                dst,
+                pred,
+                ty,
+                a,
+                b,
+            } => match other {
                 Inst::Compare {
                     dst: other_dst,
                     pred: other_pred,
                     ty: other_ty,
                     a: other_a,
                     b: other_b,
-                },
-            ) => {
-                dst.is(other_dst)
+                } => dst.is(other_dst)
                     && pred.is(other_pred)
                     && ty.is(other_ty)
                     && a.is(other_a)
-                    && b.is(other_b)
-            }
-            (
-                Inst::Select {
-                    dst,
-                    cond,
-                    ty,
-                    a,
-                    b,
-                },
+                    && b.is(other_b),
+                _ => false,
+            },
+            Inst::Select {
+                dst,
+                cond,
+                ty,
+                a,
+                b,
+            } => match other {
                 Inst::Select {
                     dst: other_dst,
                     cond: other_cond,
                     ty: other_ty,
                     a: other_a,
                     b: other_b,
-                },
-            ) => {
-                dst.is(other_dst)
+                } => dst.is(other_dst)
                     && cond.is(other_cond)
                     && ty.is(other_ty)
                     && a.is(other_a)
-                    && b.is(other_b)
-            }
-            (
-                Inst::Cast {
-                    dst,
-                    op,
-                    from,
-                    a,
-                    to,
-                },
+                    && b.is(other_b),
+                _ => false,
+            },
+            Inst::Cast {
+                dst,
+                op,
+                from,
+                a,
+                to,
+            } => match other {
                 Inst::Cast {
                     dst: other_dst,
                     op: other_op,
                     from: other_from,
                     a: other_a,
                     to: other_to,
-                },
-            ) => {
-                dst.is(other_dst)
+                } => dst.is(other_dst)
                     && op.is(other_op)
                     && from.is(other_from)
                     && a.is(other_a)
-                    && to.is(other_to)
-            }
-            (
-                Inst::Gep {
-                    dst,
-                    ty,
-                    base,
-                    index,
-                },
+                    && to.is(other_to),
+                _ => false,
+            },
+            Inst::Gep {
+                dst,
+                ty,
+                base,
+                index,
+            } => match other {
                 Inst::Gep {
                     dst: other_dst,
                     ty: other_ty,
                     base: other_base,
                     index: other_index,
-                },
-            ) => {
-                dst.is(other_dst) && ty.is(other_ty) && base.is(other_base) && index.is(other_index)
-            }
-            (
-                Inst::Load { dst, ty, addr },
+                } => dst.is(other_dst)
+                    && ty.is(other_ty)
+                    && base.is(other_base)
+                    && index.is(other_index),
+                _ => false,
+            },
+            Inst::Load { dst, ty, addr } => match other {
                 Inst::Load {
                     dst: other_dst,
                     ty: other_ty,
                     addr: other_addr,
-                },
-            ) => { dst.is(other_dst) && ty.is(other_ty) && addr.is(other_addr) }
-            (
-                Inst::Store { ty, value, addr },
+                } => dst.is(other_dst) && ty.is(other_ty) && addr.is(other_addr),
+                _ => false,
+            },
+            Inst::Store { ty, value, addr } => match other {
                 Inst::Store {
                     ty: other_ty,
                     value: other_value,
                     addr: other_addr,
-                },
-            ) => { ty.is(other_ty) && value.is(other_value) && addr.is(other_addr) }
-            (
-                Inst::Call {
-                    dst,
-                    fty,
-                    callee,
-                    args,
-                },
+                } => ty.is(other_ty) && value.is(other_value) && addr.is(other_addr),
+                _ => false,
+            },
+            Inst::Call {
+                dst,
+                fty,
+                callee,
+                args,
+            } => match other {
                 Inst::Call {
                     dst: other_dst,
                     fty: other_fty,
                     callee: other_callee,
                     args: other_args,
-                },
-            ) => {
-                dst.is(other_dst)
+                } => dst.is(other_dst)
                     && fty.is(other_fty)
                     && callee.is(other_callee)
-                    && args.is(other_args)
-            }
-            (
-                Inst::Extract { dst, pair, part },
+                    && args.is(other_args),
+                _ => false,
+            },
+            Inst::Extract { dst, pair, part } => match other {
                 Inst::Extract {
                     dst: other_dst,
                     pair: other_pair,
                     part: other_part,
-                },
-            ) => { dst.is(other_dst) && pair.is(other_pair) && part == other_part }
-            (
-                Inst::Phi { dst, ty, arms },
+                } => dst.is(other_dst) && pair.is(other_pair) && part == other_part,
+                _ => false,
+            },
+            Inst::Phi { dst, ty, arms } => match other {
                 Inst::Phi {
                     dst: other_dst,
                     ty: other_ty,
                     arms: other_arms,
-                },
-            ) => { dst.is(other_dst) && ty.is(other_ty) && arms.is(other_arms) }
-            (Inst::Br { to }, Inst::Br { to: other_to }) => { to.is(other_to) }
-            (
-                Inst::CondBr { cond, yes, no },
+                } => dst.is(other_dst) && ty.is(other_ty) && arms.is(other_arms),
+                _ => false,
+            },
+            Inst::Br { to } => match other {
+                Inst::Br { to: other_to } => to.is(other_to),
+                _ => false,
+            },
+            Inst::CondBr { cond, yes, no } => match other {
                 Inst::CondBr {
                     cond: other_cond,
                     yes: other_yes,
                     no: other_no,
-                },
-            ) => { cond.is(other_cond) && yes.is(other_yes) && no.is(other_no) }
-            (
-                Inst::Switch {
-                    width,
-                    value,
-                    other,
-                    cases,
-                },
+                } => cond.is(other_cond) && yes.is(other_yes) && no.is(other_no),
+                _ => false,
+            },
+            Inst::Switch {
+                width,
+                value,
+                other: fallback,
+                cases,
+            } => match other {
                 Inst::Switch {
                     width: other_width,
                     value: other_value,
-                    other: other_other,
+                    other: other_fallback,
                     cases: other_cases,
-                },
-            ) => {
-                width.is(other_width)
+                } => width.is(other_width)
                     && value.is(other_value)
-                    && other.is(other_other)
-                    && cases.is(other_cases)
-            }
-            (
-                Inst::Ret { ty, value },
+                    && fallback.is(other_fallback)
+                    && cases.is(other_cases),
+                _ => false,
+            },
+            Inst::Ret { ty, value } => match other {
                 Inst::Ret {
                     ty: other_ty,
                     value: other_value,
-                },
-            ) => { ty.is(other_ty) && value.is(other_value) }
-            (Inst::Unreachable, Inst::Unreachable) => true,
-            (Inst::Trap { code }, Inst::Trap { code: other_code }) => { code.is(other_code) }
-            (
-                Inst::Test { dst, ptr, id },
+                } => ty.is(other_ty) && value.is(other_value),
+                _ => false,
+            },
+            Inst::Unreachable => match other {
+                Inst::Unreachable => true,
+                _ => false,
+            },
+            Inst::Trap { code } => match other {
+                Inst::Trap { code: other_code } => code.is(other_code),
+                _ => false,
+            },
+            Inst::Test { dst, ptr, id } => match other {
                 Inst::Test {
                     dst: other_dst,
                     ptr: other_ptr,
                     id: other_id,
-                },
-            ) => { dst.is(other_dst) && ptr.is(other_ptr) && id.is(other_id) }
-            (Inst::Assume { cond }, Inst::Assume { cond: other_cond }) => { cond.is(other_cond) }
-            (
-                Inst::CheckedLoad {
-                    dst,
-                    ptr,
-                    offset,
-                    id,
-                },
+                } => dst.is(other_dst) && ptr.is(other_ptr) && id.is(other_id),
+                _ => false,
+            },
+            Inst::PublicTest { dst, ptr, id } => match other {
+                Inst::PublicTest {
+                    dst: other_dst,
+                    ptr: other_ptr,
+                    id: other_id,
+                } => dst.is(other_dst) && ptr.is(other_ptr) && id.is(other_id),
+                _ => false,
+            },
+            Inst::Assume { cond } => match other {
+                Inst::Assume { cond: other_cond } => cond.is(other_cond),
+                _ => false,
+            },
+            Inst::CheckedLoad {
+                dst,
+                ptr,
+                offset,
+                id,
+            } => match other {
                 Inst::CheckedLoad {
                     dst: other_dst,
                     ptr: other_ptr,
                     offset: other_offset,
                     id: other_id,
-                },
-            ) => {
-                dst.is(other_dst) && ptr.is(other_ptr) && offset == other_offset && id.is(other_id)
-            }
-            (
-                Inst::Number { dst, ptr },
+                } => dst.is(other_dst)
+                    && ptr.is(other_ptr)
+                    && offset == other_offset
+                    && id.is(other_id),
+                _ => false,
+            },
+            Inst::Number { dst, ptr } => match other {
                 Inst::Number {
                     dst: other_dst,
                     ptr: other_ptr,
-                },
-            ) => { dst.is(other_dst) && ptr.is(other_ptr) }
-            (
-                Inst::Rotate { dst, value, by },
+                } => dst.is(other_dst) && ptr.is(other_ptr),
+                _ => false,
+            },
+            Inst::Rotate { dst, value, by } => match other {
                 Inst::Rotate {
                     dst: other_dst,
                     value: other_value,
                     by: other_by,
-                },
-            ) => { dst.is(other_dst) && value.is(other_value) && by == other_by }
-            _ => false,
+                } => dst.is(other_dst) && value.is(other_value) && by == other_by,
+                _ => false,
+            },
         }
     }
 }

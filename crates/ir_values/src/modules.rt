@@ -11,7 +11,7 @@ use std::alloc::Global;
 /// of its file, from 1, and its own.
 ///
 /// Source: LLVM, "Type Metadata", "Type identifiers".
-#[derive(Debug, Drop)]
+#[derive(Drop)]
 pub enum TypeId {
     Name(Text),
     Node(u32, u32),
@@ -63,7 +63,7 @@ impl PartialEq for TypeId {
 /// That the address `offset` bytes from the start of an object belongs to a type identifier.
 ///
 /// Source: LLVM, "Type Metadata".
-#[derive(Debug, Drop)]
+#[derive(Drop)]
 pub struct Entry {
     pub offset: u64,
     pub id: TypeId,
@@ -109,7 +109,7 @@ impl PartialEq for Entry {
 /// Which definitions of a name are one. `External` is a declaration.
 ///
 /// Source: LLVM Language Reference, "Linkage Types".
-#[derive(Debug, Clone, Copy, PartialEq, Eq)]
+#[derive(Clone, Copy, PartialEq, Eq)]
 pub enum Linkage {
     Private,
     Strong,
@@ -124,7 +124,7 @@ impl Same for Linkage {
 }
 
 /// A block: its label, without the colon, and its instructions.
-#[derive(Debug, Drop)]
+#[derive(Drop)]
 pub struct Block {
     pub label: Text,
     pub insts: List<Inst>,
@@ -168,7 +168,7 @@ impl PartialEq for Block {
 }
 
 /// A function. A declaration has no blocks.
-#[derive(Debug, Drop)]
+#[derive(Drop)]
 pub struct Func {
     pub place: Place,
     pub name: Text,
@@ -228,7 +228,7 @@ impl PartialEq for Func {
 }
 
 /// A variable. A declaration has no initialiser. `align` is in bytes, and 1 where none is written.
-#[derive(Debug, Drop)]
+#[derive(Drop)]
 pub struct Var {
     pub place: Place,
     pub name: Text,
@@ -296,7 +296,7 @@ impl PartialEq for Var {
 /// A jump table: entry k, of eight bytes, leads to function k.
 ///
 /// Source: Clang, "Control Flow Integrity Design Documentation", "Forward-Edge CFI for Indirect Function Calls".
-#[derive(Debug, Drop)]
+#[derive(Drop)]
 pub struct Jump {
     pub place: Place,
     pub name: Text,
@@ -342,7 +342,7 @@ impl PartialEq for Jump {
 }
 
 /// A module: its variables, functions and jump tables, each in text order.
-#[derive(Debug, Drop)]
+#[derive(Drop)]
 pub struct Module {
     pub vars: List<Var>,
     pub funcs: List<Func>,

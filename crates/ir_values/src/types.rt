@@ -5,7 +5,7 @@ use ltt_base::{Boxed, Copied, List, Memory, Same, Text};
 use std::alloc::Global;
 
 /// The width of an integer type, in bits.
-#[derive(Debug, Clone, Copy, PartialEq, Eq)]
+#[derive(Clone, Copy, PartialEq, Eq)]
 pub enum Width {
     W1,
     W8,
@@ -32,7 +32,7 @@ impl Copied for Width {
 /// with its text, stand in units alone.
 ///
 /// Source: LLVM Language Reference, "Type System".
-#[derive(Debug, Drop)]
+#[derive(Drop)]
 pub enum Ty {
     Void,
     Int(Width),
@@ -121,7 +121,7 @@ impl PartialEq for Ty {
 }
 
 /// The type of a function.
-#[derive(Debug, Drop)]
+#[derive(Drop)]
 pub struct FuncTy {
     pub result: Ty,
     pub params: List<Ty>,

@@ -4,21 +4,21 @@ use crate::types::Ty;
 use ltt_base::{List, Text};
 
 /// A unit: the text of its first token, and what the unit says.
-#[derive(Debug, Drop)]
+#[derive(Drop)]
 pub struct Unit {
     pub first: Text,
     pub form: Form,
 }
 
 /// An attachment, `, !KIND !NODE`; the node's number is kept as its digits.
-#[derive(Debug, Drop)]
+#[derive(Drop)]
 pub struct Attach {
     pub kind: Text,
     pub node: Text,
 }
 
 /// A parameter. `left` lists the left-out words that stand with it, in text order.
-#[derive(Debug, Drop)]
+#[derive(Drop)]
 pub struct Param {
     pub ty: Ty,
     pub left: List<Text>,
@@ -26,7 +26,7 @@ pub struct Param {
 }
 
 /// The head of a function. `dots` tells that `...` ends its parameters.
-#[derive(Debug, Drop)]
+#[derive(Drop)]
 pub struct Head {
     pub name: Text,
     pub linkage: Option<Text>,
@@ -38,7 +38,7 @@ pub struct Head {
 }
 
 /// An argument of a call: a value, `metadata !".."` with its bytes, or `metadata !N` with its digits.
-#[derive(Debug, Drop)]
+#[derive(Drop)]
 pub enum Arg {
     Value {
         ty: Ty,
@@ -52,7 +52,7 @@ pub enum Arg {
 /// A part of a metadata node.
 ///
 /// Source: LLVM Language Reference, "Metadata Nodes and Metadata Strings".
-#[derive(Debug, Drop)]
+#[derive(Drop)]
 pub enum MetaItem {
     Const(Ty, Const),
     Node(Text),
@@ -62,7 +62,7 @@ pub enum MetaItem {
 }
 
 /// Which line of a module's head a unit is.
-#[derive(Debug, Clone, Copy)]
+#[derive(Clone, Copy)]
 pub enum HeaderKind {
     Source,
     Layout,
@@ -70,7 +70,7 @@ pub enum HeaderKind {
 }
 
 /// A branch.
-#[derive(Debug, Drop)]
+#[derive(Drop)]
 pub enum BranchText {
     Br {
         to: Text,
@@ -89,7 +89,7 @@ pub enum BranchText {
 }
 
 /// The end of a function's run.
-#[derive(Debug, Drop)]
+#[derive(Drop)]
 pub enum EndText {
     RetVoid,
     Ret { ty: Ty, value: Operand },
@@ -97,7 +97,7 @@ pub enum EndText {
 }
 
 /// What a unit says, one variant a form. Words that change nothing are in no field.
-#[derive(Debug, Drop)]
+#[derive(Drop)]
 pub enum Form {
     HeaderForm {
         kind: HeaderKind,

@@ -3,8 +3,6 @@
 
 mod laws;
 mod table;
-#[cfg(test)]
-mod tests;
 
 pub use laws::entries_stand;
 pub use table::{JumpTable, entry_of, tables};

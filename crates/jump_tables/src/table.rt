@@ -8,7 +8,7 @@ use std::alloc::Global;
 /// A table of functions: entry k is that of `funcs` at place k, and stands 8k bytes from the start.
 ///
 /// Source: Control Flow Integrity Design, "Forward-Edge CFI for Indirect Function Calls".
-#[derive(Debug, Drop)]
+#[derive(Drop)]
 pub struct JumpTable {
     pub funcs: List<u32>,
 }

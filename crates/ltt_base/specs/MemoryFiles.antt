@@ -1,5 +1,5 @@
 -- Files in memory: what they hold, which is selected, what is counted, and which calls fail.
-use Rattle.std.specs.Prelude.{◌≡◌, ℕ, Bool, nat_eq, ◌||◌, is_none, List, [], drop, slice_get, slice_index_or}
+use Rattle.std.specs.Prelude.{◌≡◌, ℕ, ◌-◌, ◌^◌, Bool, nat_eq, ◌||◌, is_none, List, [], drop, slice_get, slice_index_or}
 use Rattle.std.specs.List.{position_or_len}
 use Rattle.std.specs.Option.{option_map, option_and_then}
 use Rattle.std.specs.Cmp.Lexicographic.{pointwise}
@@ -23,6 +23,8 @@ pub record FilesState : Type 0 where
   -- the calls made so far
   pub selects : ℕ
   pub reads : ℕ
+  -- the most bytes that one read gives
+  pub most : ℕ
 
 abbrev pub is_named : List ℕ → MemFile → Bool
 is_named name file = pointwise nat_eq file.name name
@@ -54,10 +56,11 @@ faults m name = slice_index_or m.counts (place_of name m.files) m.others
 abbrev pub select_fails : FilesState → List ℕ → Bool
 select_fails m name = is_none (held m name) || fails m.failing_selects (up m.selects)
 
--- the same calls fail
+-- the same calls fail, and a read gives at most as many bytes
 pub record SamePlan (old new : FilesState) : Type 0 where
   pub failing_selects : new.failing_selects ≡ old.failing_selects
   pub failing_reads : new.failing_reads ≡ old.failing_reads
+  pub most : new.most ≡ old.most
 
 -- the same calls fail, and as many are made
 pub record SameCalls (old new : FilesState) : Type 0 where
@@ -77,4 +80,5 @@ none_held = record {
   failing_reads = [];
   selects = 0;
   reads = 0;
+  most = 2 ^ 64 - 1;
 }

@@ -14,8 +14,6 @@ mod refusal;
 mod same;
 mod stack;
 mod standard_sink;
-#[cfg(test)]
-mod tests;
 mod text;
 mod writing;
 

@@ -11,7 +11,7 @@ use crate::text::Text;
 use std::alloc::Global;
 use std::marker::Model;
 
-#[derive(Debug, Drop)]
+#[derive(Drop)]
 struct MemFile {
     name: Text,
     bytes: Text,
@@ -30,10 +30,11 @@ pub struct MemFiles {
     failing_reads: List<u64>,
     selects: u64,
     reads: u64,
+    most: usize,
 }
 
 impl Model for MemFiles {
-    ghost use Rattle.std.specs.Prelude.{◌≡◌, ◌<◌, length};
+    ghost use Rattle.std.specs.Prelude.{◌≡◌, ◌<◌, ◌≤◌, length};
     ghost use Rattle.std.specs.Option.{ForSome};
     ghost use Rattle.ltt_base.specs.MemoryFiles.{FilesState};
 
@@ -49,9 +50,10 @@ impl Model for MemFiles {
       failing_reads = m.failing_reads;
       selects = m.selects;
       reads = m.reads;
+      most = m.most;
     } };
 
-    ghost invariant = { λ m. (length m.counts ≡ length m.files) × ForSome m.selected (λ place. place < length m.files) };
+    ghost invariant = { λ m. (length m.counts ≡ length m.files) × ForSome m.selected (λ place. place < length m.files) × (1 ≤ m.most) };
 }
 
 ghost use Rattle.ltt_base.specs.MemoryFiles as mem;
@@ -92,17 +94,19 @@ fn count_fault(counts: &mut List<u64>, place: usize)
     *count = count.saturating_add(1);
 }
 
-// Moves as many of the bytes from a place on as there are, and as there is room for. Answers their number.
-fn fill(into: &mut [u8], bytes: &[u8], at: usize) -> usize
+// Moves as many of the bytes from a place on as there are, as there is room for, and at most `most`. Answers their number.
+fn fill(into: &mut [u8], bytes: &[u8], at: usize, most: usize) -> usize
+    requires { 1 ≤ most }
     ensures room { result ≤ length into.new }
     ensures moved { drop at bytes.now ≡ take result into.new ++ drop (at + result) bytes.now }
     ensures end { result ≡ 0 → 0 < length into.new → drop (at + result) bytes.now ≡ [] }
+    ensures few { result ≤ most }
     ensures fits { at + result < 2 ^ 64 }
 {
     if at >= bytes.len() {
         return 0;
     }
-    let count = (bytes.len() - at).min(into.len());
+    let count = (bytes.len() - at).min(into.len()).min(most);
     into[..count].copy_from_slice(&bytes[at..at + count]);
     count
 }
@@ -125,6 +129,7 @@ impl MemFiles {
             failing_reads: List::new(alloc),
             selects: 0,
             reads: 0,
+            most: usize::MAX,
         }
     }
 
@@ -197,6 +202,14 @@ impl MemFiles {
         self.failing_selects.add(call)
     }
 
+    /// Makes each read give at most `most` bytes.
+    pub fn pieces(&mut self, most: usize)
+        requires { 1 ≤ most }
+        ensures { self.new ≡ record self.old { most = most } }
+    {
+        self.most = most;
+    }
+
     // Counts a fault at a place, and selects nothing.
     fn fail(&mut self, place: usize)
         ensures files { self.new.files ≡ self.old.files }
@@ -263,6 +276,7 @@ impl Files for MemFiles {
         ensures call { self.new.reads ≡ up self.old.reads }
         ensures selects { self.new.selects ≡ self.old.selects }
         ensures plan { mem.SamePlan self.old self.new }
+        ensures most { IfOk result (λ count. count ≤ self.old.most) }
     {
         self.reads = self.reads.saturating_add(1);
         let Some(place) = self.selected else {
@@ -273,7 +287,7 @@ impl Files for MemFiles {
             return Err(Failed);
         }
         let file = file_at(self.files.items(), place);
-        let count = fill(into, file.bytes.bytes(), self.at);
+        let count = fill(into, file.bytes.bytes(), self.at, self.most);
         self.at += count;
         Ok(count)
     }

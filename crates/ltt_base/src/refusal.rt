@@ -75,7 +75,7 @@ impl From<Memory> for Fault {
 }
 
 /// A value with the place where its text begins.
-#[derive(Debug, Drop)]
+#[derive(Drop)]
 pub struct Placed<T> {
     pub place: Place,
     pub value: T,

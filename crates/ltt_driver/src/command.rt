@@ -17,7 +17,7 @@ use std::marker::Model;
 const TEXT_LIMIT: usize = 67_108_864;
 
 /// What is done with a file.
-#[derive(Debug, Clone, Copy)]
+#[derive(Clone, Copy)]
 pub enum Kind<'a> {
     /// Writes the output module.
     Lower,
@@ -34,7 +34,7 @@ pub enum Kind<'a> {
 }
 
 /// A command.
-#[derive(Debug, Drop)]
+#[derive(Drop)]
 pub struct Command<'a> {
     pub kind: Kind<'a>,
 }

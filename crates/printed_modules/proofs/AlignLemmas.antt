@@ -6,7 +6,7 @@ use Rattle.ir_values.specs.declared.types.Width.{Width}
 use Rattle.ir_values.specs.declared.types.Width.TheVariants.{W1, W8, W16, W32, W64}
 use Rattle.ir_values.specs.declared.types.Ty.{Ty, out-Ty, map-Ty}
 use Rattle.ir_values.specs.declared.types.Ty.TheOpen.{Ty-F}
-use Rattle.ir_values.specs.Layout.{width_bytes}
+use Rattle.ir_numbers.specs.Layout.{width_bytes}
 use Rattle.check_types.specs.Measures.{Measure, within, single, array_measure, option_with_part, parts_measure, struct_measure, measure_step, named_measure, measure, align_in, align}
 use Rattle.printed_units.specs.Written.{TyLayer, IsTyWithin}
 use Rattle.printed_modules.proofs.TypeKept.{Units, measure_opened}

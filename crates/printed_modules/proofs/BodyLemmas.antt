@@ -71,6 +71,7 @@ opened_begun at spot begun = ap (λ b. cond b spot (record spot {
 behind_inst : (at : ℕ) (spot : Spot) (i : Inst) → IsInst i
     → after at (Inside spot) (inst_said i) ≡ Inside (passed (opened at spot) (sort_of (inst_said i)) (inst_said i))
 behind_inst at spot (inst.Test dst ptr id) is = absurd is
+behind_inst at spot (inst.PublicTest dst ptr id) is = absurd is
 behind_inst at spot (inst.Assume test) is = absurd is
 behind_inst at spot (inst.CheckedLoad dst ptr offset id) is = absurd is
 behind_inst at spot (inst.Trap None) is = refl

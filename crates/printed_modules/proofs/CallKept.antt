@@ -26,7 +26,7 @@ use Rattle.check_bodies.specs.Sorts.{is_void}
 use Rattle.check_constants.specs.declared.intrinsics.Intrinsic as reader
 use Rattle.check_constants.specs.Intrinsics.{intrinsic_of, is_declared_intrinsic, is_declaration, declares}
 use Rattle.check_constants.specs.Kept.{kept}
-use Rattle.check_calls.specs.Callees.{is_name, may_call, function_of, function_head, unit_function, named_function, called, called_intrinsic}
+use Rattle.kept_parts.specs.Called.{is_name, may_call, function_of, function_head, unit_function, named_function, called, called_intrinsic}
 use Rattle.built_instructions.specs.Arguments.{values_kept, types_kept}
 use Rattle.built_instructions.specs.Calls.{function_type, callee_kept, result_name, plain_call, intrinsic_call, call_of, call_kept}
 use Rattle.printed_units.specs.Written.{IsTy, IsOperand, IsArgument, IsCallee}

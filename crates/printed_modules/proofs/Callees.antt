@@ -10,7 +10,7 @@ use Rattle.ir_print.specs.ModuleText.{is_called}
 use Rattle.check_names.specs.Reserved.{is_intrinsic}
 use Rattle.check_names.specs.Spaces.{first_unit}
 use Rattle.check_names.specs.declared.spaces.Space.TheVariants.{Globals}
-use Rattle.check_calls.specs.Callees.{function_of}
+use Rattle.kept_parts.specs.Called.{function_of}
 use Rattle.printed_modules.specs.Printed.{is_function, is_called_name, intrinsic_name}
 
 -- the units have a function of this name

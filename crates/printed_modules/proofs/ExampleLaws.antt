@@ -5,7 +5,7 @@ use Rattle.ir_values.specs.declared.types.Ty.TheVariants as ty
 use Rattle.ir_values.specs.declared.types.Ty.TheVariants.{outs-Int, outs-Ptr, outs-Array}
 use Rattle.ir_values.specs.declared.constants.Const.TheVariants as const
 use Rattle.ir_values.specs.declared.constants.Const.TheVariants.{outs-Addr}
-use Rattle.ir_print.specs.Names.{is_decimal, is_number, is_digit}
+use Rattle.ir_names.specs.Names.{is_decimal, is_number, is_digit}
 use Rattle.ir_print.specs.ModuleText.{is_call}
 use Rattle.type_grammar.specs.Levels.{levels}
 use Rattle.check_types.specs.Measures.{single, within, measure}

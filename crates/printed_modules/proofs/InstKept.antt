@@ -19,15 +19,15 @@ use Rattle.ir_values.specs.declared.modules.Module.{Module}
 use Rattle.ir_values.specs.declared.units.Arg.TheVariants.{Value}
 use Rattle.ir_print.specs.declared.intrinsics.Intrinsic.{Intrinsic}
 use Rattle.ir_print.specs.ModuleText.{is_call, is_called}
-use Rattle.ir_values.specs.Numbers.{bits}
+use Rattle.ir_numbers.specs.Numbers.{bits}
 use Rattle.type_grammar.specs.Levels.{levels}
 use Rattle.check_bodies.specs.Sorts.{is_void}
 use Rattle.check_types.specs.Replaced.{replaced}
 use Rattle.check_constants.specs.declared.intrinsics.Intrinsic.TheVariants.{Trap, CodedTrap, Rotate}
 use Rattle.check_operands.specs.Operands.{operand_kept}
-use Rattle.check_instructions.specs.Plain.{layer_width, width_of}
-use Rattle.check_instructions.specs.Cases.{number_of}
-use Rattle.check_instructions.specs.Phis.{kept_arms}
+use Rattle.kept_parts.specs.Widths.{layer_width, width_of}
+use Rattle.kept_parts.specs.CaseNumbers.{number_of}
+use Rattle.kept_parts.specs.Arms.{kept_arms}
 use Rattle.built_instructions.specs.Values.{width_or, width_at, number_or, layer_number, number_in, byte_of}
 use Rattle.built_instructions.specs.Plain.{index_kept}
 use Rattle.built_instructions.specs.Branches.{goal_of, goals_of, end_kept}

@@ -21,7 +21,7 @@ use Rattle.ir_print.specs.ModuleText.{is_called}
 use Rattle.check_names.specs.declared.spaces.Space.TheVariants.{Globals}
 use Rattle.check_names.specs.Reserved.{is_intrinsic}
 use Rattle.check_names.specs.Spaces.{global_of, is_named, first_unit}
-use Rattle.check_calls.specs.Callees.{function_head, unit_function, function_of}
+use Rattle.kept_parts.specs.Called.{function_head, unit_function, function_of}
 use Rattle.printed_units.specs.Said.{var_said, table_said, head_said, define_said, intrinsic_said}
 use Rattle.printed_units.specs.Lines.{forms_of}
 use Rattle.printed_modules.specs.Printed.{intrinsic_name, called_names, intrinsics_of, is_called_name, is_function, is_declared, AreApart, IsPrinted}

@@ -12,7 +12,7 @@ use Rattle.ir_values.specs.declared.modules.Jump.{Jump}
 use Rattle.ir_values.specs.declared.modules.Module.{Module}
 use Rattle.ir_print.specs.declared.intrinsics.Intrinsic.{Intrinsic}
 use Rattle.ir_print.specs.Items.{private_text, linkage_text, kind_text, content_text, params_text, block_text, var_pieces, table_pieces, declare_pieces, define_pieces, var_text, table_text, define_text}
-use Rattle.ir_print.specs.Names.{global_text}
+use Rattle.ir_names.specs.Names.{global_text}
 use Rattle.ir_print.specs.Pieces.{joined, commas}
 use Rattle.ir_print.specs.Types.{ty_text}
 use Rattle.ir_print.specs.ModuleText.{has_none, is_call, is_called, called_text, intrinsic_text, declared_text, defined_text, module_text}

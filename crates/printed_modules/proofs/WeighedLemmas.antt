@@ -13,7 +13,7 @@ use Rattle.ir_values.specs.declared.constants.Const.TheOpen.{Const-F, Operand-F}
 use Rattle.ir_values.specs.declared.constants.Operand.{Operand, fold-roll-Operand}
 use Rattle.ir_values.specs.declared.constants.Operand.TheVariants as operand
 use Rattle.ir_values.specs.declared.constants.Operand.TheVariants.{rolls-Const}
-use Rattle.ir_values.specs.Numbers.{bits}
+use Rattle.ir_numbers.specs.Numbers.{bits}
 use Rattle.check_types.specs.Measures.{Measure, size, size_in, measure, single, measure_step, named_measure}
 use Rattle.check_constants.specs.declared.indices.Index.TheVariants.{Number}
 use Rattle.check_constants.specs.Numbers.{extended}

@@ -20,8 +20,8 @@ use Rattle.word_grammar.specs.Runs.{call_run, function_run}
 use Rattle.instruction_grammar.specs.Operands.{operand_at, value}
 use Rattle.instruction_grammar.specs.Actions.{action_body, action}
 use Rattle.instruction_grammar.specs.Calls.{tail_sign, call_sign, value_arg, argument, argument_list, arguments, call_end, perhaps_params, call_type, call}
-use Rattle.ir_print.specs.Numbers.{integer_text}
-use Rattle.ir_print.specs.Names.{is_digit, is_bare, is_name_start, is_name_byte, name_text}
+use Rattle.ir_names.specs.Numbers.{integer_text}
+use Rattle.ir_names.specs.Names.{is_digit, is_bare, is_name_start, is_name_byte, name_text}
 use Rattle.printed_tokens.specs.Atoms.{Atom}
 use Rattle.printed_tokens.specs.Looks.{seen_of}
 use Rattle.printed_units.specs.Written.{IsName, IsTy, IsOperand, IsCallee, IsArgument, IsCode}

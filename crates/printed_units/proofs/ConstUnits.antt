@@ -14,7 +14,7 @@ use Rattle.ir_values.specs.declared.constants.Const.TheVariants as const
 use Rattle.ir_values.specs.declared.constants.Const.TheOpen.{Const-F}
 use Rattle.ir_values.specs.declared.constants.Operand.{Operand}
 use Rattle.ir_values.specs.declared.constants.Operand.TheVariants as operand
-use Rattle.ir_values.specs.Numbers.{bits}
+use Rattle.ir_numbers.specs.Numbers.{bits}
 use Rattle.unit_grammar.specs.Pieces.{Piece}
 use Rattle.unit_grammar.specs.Signs.{words}
 use Rattle.unit_grammar.specs.Grammar.{Text, at}
@@ -30,7 +30,7 @@ use Rattle.type_grammar.specs.Left as left
 use Rattle.type_grammar.specs.Left.{left_text, here, moved_away, number_text, address_of, IsLeft}
 use Rattle.type_grammar.specs.Levels.{IsAt, levels}
 use Rattle.ir_print.specs.Constants.{bytes_text}
-use Rattle.ir_print.specs.Numbers.{integer_text}
+use Rattle.ir_names.specs.Numbers.{integer_text}
 use Rattle.printed_tokens.specs.Atoms.{Atom, a_token}
 use Rattle.printed_tokens.specs.Looks.{Seen, seen_of}
 use Rattle.printed_units.proofs.ListLemmas.{all_zipped}

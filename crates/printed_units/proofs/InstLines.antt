@@ -4,7 +4,7 @@ use Rattle.ir_lex.specs.declared.token.Kind.TheVariants.{Word, Local, Mark}
 use Rattle.ir_values.specs.declared.instructions.Inst.{Inst}
 use Rattle.ir_values.specs.declared.instructions.Inst.TheVariants as inst
 use Rattle.ir_values.specs.declared.units.Form.{Form}
-use Rattle.ir_print.specs.Names.{local_text}
+use Rattle.ir_names.specs.Names.{local_text}
 use Rattle.unit_grammar.specs.Pieces.{Piece}
 use Rattle.unit_grammar.specs.Signs.{of_kind, mark as a_mark, word as a_word}
 use Rattle.unit_grammar.specs.Readers.{found}
@@ -77,6 +77,7 @@ line_said (inst.Ret type value) end front rest goes ok is e next = absurd cc
 line_said inst.Unreachable end front rest goes ok is e next = absurd cc
 line_said (inst.Trap code) end front rest goes ok is e next = said_action _ front rest _ is next
 line_said (inst.Test dst ptr id) end front rest goes ok is e next = absurd ok
+line_said (inst.PublicTest dst ptr id) end front rest goes ok is e next = absurd ok
 line_said (inst.Assume test) end front rest goes ok is e next = absurd ok
 line_said (inst.CheckedLoad dst ptr offset id) end front rest goes ok is e next = absurd ok
 line_said (inst.Number dst ptr) end front rest goes ok is e next = number_line end front rest dst _ _ is e next

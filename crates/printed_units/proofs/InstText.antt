@@ -18,7 +18,7 @@ use Rattle.ir_values.specs.declared.instructions.Inst.{Inst}
 use Rattle.ir_values.specs.declared.instructions.Inst.TheVariants as inst
 use Rattle.type_grammar.specs.Levels.{levels}
 use Rattle.ir_print.specs.Pieces.{joined, spaces}
-use Rattle.ir_print.specs.Names.{local_text}
+use Rattle.ir_names.specs.Names.{local_text}
 use Rattle.ir_print.specs.Types.{pair_text}
 use Rattle.ir_print.specs.Constants.{operand_text, typed_text}
 use Rattle.ir_print.specs.Instructions.{op_text, pred_text, cast_text, to_text, sets, callee_text, args_text, index_text, arm_text, case_text, ret_pieces, trap_pieces, inst_pieces, inst_text}

@@ -14,7 +14,7 @@ use Rattle.ir_values.specs.declared.modules.Module.{Module}
 use Rattle.type_grammar.specs.Levels.{levels}
 use Rattle.ir_print.specs.declared.intrinsics.Intrinsic.{Intrinsic}
 use Rattle.ir_print.specs.Pieces.{commas}
-use Rattle.ir_print.specs.Names.{is_name_start, is_name_byte, is_digit, is_bare, name_text, global_text}
+use Rattle.ir_names.specs.Names.{is_name_start, is_name_byte, is_digit, is_bare, name_text, global_text}
 use Rattle.ir_print.specs.Types.{ty_text}
 use Rattle.ir_print.specs.Items.{private_text, linkage_text, kind_text, content_text, params_text, line_text, block_text, var_pieces, table_pieces, declare_pieces, define_pieces, var_text, table_text, declare_text, define_text}
 use Rattle.ir_print.specs.ModuleText.{is_called, has_none, intrinsic_text, declared_text, defined_text, called_text, module_text}

@@ -17,8 +17,8 @@ use Rattle.ir_lex.proofs.CaseSplits.{test}
 use Rattle.unit_grammar.proofs.BoolLemmas.{and_both, and_true, is_false, not_both}
 use Rattle.ir_values.specs.declared.types.Width.{Width}
 use Rattle.ir_values.specs.declared.types.Width.TheVariants.{W1, W8, W16, W32, W64}
-use Rattle.ir_print.specs.Names.{is_digit, is_name_start, is_name_byte, is_bare, is_decimal, value_of, is_number, is_plain, escape, quoted, name_text, global_text, local_text}
-use Rattle.ir_print.specs.Numbers.{signed_text, truth_text, integer_text}
+use Rattle.ir_names.specs.Names.{is_digit, is_name_start, is_name_byte, is_bare, is_decimal, value_of, is_number, is_plain, escape, quoted, name_text, global_text, local_text}
+use Rattle.ir_names.specs.Numbers.{signed_text, truth_text, integer_text}
 use Rattle.ir_print.specs.Constants.{bytes_text}
 use Rattle.printed_tokens.specs.Atoms.{IsToken}
 use Rattle.printed_tokens.proofs.AtomLemmas.{word_token}

@@ -153,6 +153,7 @@ inst_begins (inst.Ret type (Some value)) ok = refl
 inst_begins (inst.Trap None) ok = refl
 inst_begins (inst.Trap (Some code)) ok = refl
 inst_begins (inst.Test dst ptr id) ok = absurd ok
+inst_begins (inst.PublicTest dst ptr id) ok = absurd ok
 inst_begins (inst.Assume test) ok = absurd ok
 inst_begins (inst.CheckedLoad dst ptr offset id) ok = absurd ok
 inst_begins _ ok = refl

@@ -12,8 +12,8 @@ use Rattle.ir_values.specs.declared.constants.Operand.{Operand, fold-roll-Operan
 use Rattle.ir_values.specs.declared.constants.Operand.TheVariants as operand
 use Rattle.type_grammar.specs.Levels.{levels}
 use Rattle.ir_print.specs.Types.{width_text, struct_ty_text, ty_step, ty_text}
-use Rattle.ir_print.specs.Names.{global_text, local_text}
-use Rattle.ir_print.specs.Numbers.{integer_text}
+use Rattle.ir_names.specs.Names.{global_text, local_text}
+use Rattle.ir_names.specs.Numbers.{integer_text}
 use Rattle.ir_print.specs.Constants.{Printed, moved_text, address_text, number_text, parts_text, zero_text, bytes_text, struct_text, const_step, operand_step, const_printed, operand_printed, const_text, typed_const_text, operand_text, typed_text}
 use Rattle.ir_lex.specs.declared.token.Kind.TheVariants.{Word}
 use Rattle.ir_lex.proofs.CaseSplits.{test}

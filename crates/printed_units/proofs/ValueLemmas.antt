@@ -14,7 +14,7 @@ use Rattle.ir_values.specs.declared.types.Width.{Width}
 use Rattle.ir_values.specs.declared.types.Width.TheVariants.{W1, W8, W16, W32, W64}
 use Rattle.ir_values.specs.declared.types.Ty.TheVariants as ty
 use Rattle.ir_values.specs.declared.constants.Const.TheVariants as const
-use Rattle.ir_values.specs.Numbers.{bits}
+use Rattle.ir_numbers.specs.Numbers.{bits}
 use Rattle.unit_grammar.specs.Pieces.{Piece}
 use Rattle.unit_grammar.specs.Signs.{name}
 use Rattle.unit_grammar.proofs.BoolLemmas.{and_both, or_either, test}
@@ -24,10 +24,10 @@ use Rattle.type_grammar.specs.Left.{offset_of}
 use Rattle.type_grammar.specs.declared.bare.Bare.TheVariants.{Plain}
 use Rattle.type_grammar.specs.Constants.{word_constant}
 use Rattle.type_grammar.proofs.NumberLemmas.{below_some}
-use Rattle.ir_print.specs.Names as printed
-use Rattle.ir_print.specs.Names.{is_digit, is_name_start, is_bare, is_decimal, name_text, global_text, local_text}
+use Rattle.ir_names.specs.Names as printed
+use Rattle.ir_names.specs.Names.{is_digit, is_name_start, is_bare, is_decimal, name_text, global_text, local_text}
 use Rattle.ir_print.specs.Constants.{bytes_text}
-use Rattle.ir_print.specs.Numbers.{signed_text, integer_text}
+use Rattle.ir_names.specs.Numbers.{signed_text, integer_text}
 use Rattle.printed_units.specs.Written.{IsBytes, IsName}
 use Rattle.printed_units.specs.Printing.{integer_kind}
 use Rattle.printed_units.proofs.NameLemmas.{unquoted_quoted}

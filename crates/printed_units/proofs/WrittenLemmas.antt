@@ -9,9 +9,9 @@ use Rattle.ir_values.specs.declared.constants.Const.{out-Const}
 use Rattle.ir_values.specs.declared.constants.Const.TheVariants as const
 use Rattle.ir_values.specs.declared.instructions.Inst.{Inst}
 use Rattle.ir_values.specs.declared.modules.Block.{Block}
-use Rattle.ir_values.specs.Numbers.{bits}
+use Rattle.ir_numbers.specs.Numbers.{bits}
 use Rattle.type_grammar.specs.Levels.{levels}
-use Rattle.ir_print.specs.Names.{is_decimal, is_digit}
+use Rattle.ir_names.specs.Names.{is_decimal, is_digit}
 use Rattle.ir_print.specs.Types.{width_text}
 use Rattle.ir_print.specs.ModuleText.{has_none}
 use Rattle.printed_units.specs.Written.{IsName, TyLayer, IsTyWithin, IsTy, IsConstWithin, IsOperand, IsInst, AreInsts, AreParams}

@@ -15,7 +15,7 @@ use Rattle.ir_values.specs.declared.modules.Module.{Module}
 use Rattle.ir_values.specs.declared.units.Form.{Form}
 use Rattle.ir_values.specs.declared.units.Form.TheVariants as form
 use Rattle.ir_print.specs.declared.intrinsics.Intrinsic.{Intrinsic}
-use Rattle.ir_print.specs.Names.{name_text}
+use Rattle.ir_names.specs.Names.{name_text}
 use Rattle.ir_print.specs.ModuleText.{is_called, has_none}
 use Rattle.printed_tokens.specs.Atoms.{Atom, blank, a_token}
 use Rattle.printed_units.specs.Said.{inst_said, var_said, table_said, declare_said, define_said, intrinsic_said}

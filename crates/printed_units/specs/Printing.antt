@@ -16,8 +16,8 @@ use Rattle.ir_values.specs.declared.instructions.Callee.{Callee}
 use Rattle.ir_values.specs.declared.instructions.Inst.{Inst}
 use Rattle.ir_values.specs.declared.instructions.Inst.TheVariants as inst
 use Rattle.type_grammar.specs.Levels.{levels}
-use Rattle.ir_print.specs.Names.{global_text, local_text}
-use Rattle.ir_print.specs.Numbers.{integer_text}
+use Rattle.ir_names.specs.Names.{global_text, local_text}
+use Rattle.ir_names.specs.Numbers.{integer_text}
 use Rattle.ir_print.specs.Types.{width_text}
 use Rattle.ir_print.specs.Constants.{bytes_text}
 use Rattle.ir_print.specs.Instructions.{op_text, pred_text, cast_text}

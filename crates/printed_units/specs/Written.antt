@@ -20,9 +20,9 @@ use Rattle.ir_values.specs.declared.modules.Func.{Func}
 use Rattle.ir_values.specs.declared.modules.Var.{Var}
 use Rattle.ir_values.specs.declared.modules.Jump.{Jump}
 use Rattle.ir_values.specs.declared.modules.Module.{Module}
-use Rattle.ir_values.specs.Numbers.{bits}
+use Rattle.ir_numbers.specs.Numbers.{bits}
 use Rattle.type_grammar.specs.Levels.{levels}
-use Rattle.ir_print.specs.Names.{is_decimal, is_number}
+use Rattle.ir_names.specs.Names.{is_decimal, is_number}
 
 abbrev pub IsBytes : List ℕ → Type 0
 IsBytes text = list_all (λ byte. nat_lt byte 256) text ≡ true

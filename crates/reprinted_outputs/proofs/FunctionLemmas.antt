@@ -14,7 +14,7 @@ use Rattle.ir_values.specs.declared.modules.Linkage.TheVariants.{Strong}
 use Rattle.ir_values.specs.declared.modules.Block.{Block}
 use Rattle.ir_values.specs.declared.modules.Func.{Func}
 use Rattle.ir_print.specs.declared.intrinsics.Intrinsic.{Intrinsic}
-use Rattle.ir_print.specs.Names.{is_decimal, is_number, is_digit}
+use Rattle.ir_names.specs.Names.{is_decimal, is_number, is_digit}
 use Rattle.ir_print.specs.ModuleText.{is_call, has_none}
 use Rattle.type_grammar.specs.Levels.{levels}
 use Rattle.thin_files.specs.declared.thin.Variable.{Variable}

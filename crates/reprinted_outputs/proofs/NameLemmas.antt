@@ -5,7 +5,7 @@ use Rattle.std.specs.Char.{is_ascii_digit}
 use Rattle.std.specs.Fmt.{digits}
 use Rattle.std.proofs.lemmas.Bool.Decides.{nat_tests}
 use Rattle.std.proofs.lemmas.Fmt.{decimal_injective}
-use Rattle.ir_print.specs.Names.{is_decimal, is_digit}
+use Rattle.ir_names.specs.Names.{is_decimal, is_digit}
 use Rattle.check_names.specs.Reserved.{is_made, is_intrinsic}
 use Rattle.thin_files.specs.declared.thin.Variable.{Variable}
 use Rattle.thin_files.specs.Thin.{is_free, variable_of}

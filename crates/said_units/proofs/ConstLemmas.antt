@@ -14,7 +14,7 @@ use Rattle.ir_values.specs.declared.constants.Const.TheVariants as const
 use Rattle.ir_values.specs.declared.constants.Const.TheVariants.{outs-Int, outs-Null, outs-Addr, outs-Zero, outs-Array, outs-Struct, outs-Bytes, outs-Gep, outs-Number, outs-Left, outs-Typed}
 use Rattle.ir_values.specs.declared.constants.Const.TheOpen.{Const-F}
 use Rattle.ir_values.specs.declared.constants.Operand.{Operand}
-use Rattle.ir_values.specs.Numbers.{bits}
+use Rattle.ir_numbers.specs.Numbers.{bits}
 use Rattle.type_grammar.specs.declared.address.Address.{Address}
 use Rattle.type_grammar.specs.declared.bare.Bare.{Bare}
 use Rattle.type_grammar.specs.declared.bare.Bare.TheVariants.{Zero as BareZero, Plain as Whole}

@@ -8,7 +8,7 @@ use Rattle.std.specs.Char.{is_ascii_digit}
 use Rattle.std.specs.Str.Parse.{digits_value}
 use Rattle.ir_lex.specs.Names.{is_number}
 use Rattle.ir_values.specs.declared.types.Width.{Width}
-use Rattle.ir_values.specs.Numbers.{bits}
+use Rattle.ir_numbers.specs.Numbers.{bits}
 use Rattle.type_grammar.specs.Numbers.{is_negative, digits_of, below_64, magnitude, length_of, held, int_of}
 use Rattle.type_grammar.specs.Left.{offset_at, offset_of}
 use Rattle.sized_modules.proofs.PartLemmas.{cond_has}

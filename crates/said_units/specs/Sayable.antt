@@ -23,7 +23,7 @@ use Rattle.ir_values.specs.declared.units.EndText.{EndText}
 use Rattle.ir_values.specs.declared.units.EndText.TheVariants as end
 use Rattle.ir_values.specs.declared.units.Form.{Form}
 use Rattle.ir_values.specs.declared.units.Form.TheVariants as form
-use Rattle.ir_values.specs.Numbers.{bits}
+use Rattle.ir_numbers.specs.Numbers.{bits}
 use Rattle.type_grammar.specs.Levels.{levels}
 use Rattle.printed_units.specs.Written.{IsBytes, address_levels}
 

@@ -5,7 +5,7 @@ use Rattle.ir_values.specs.declared.types.Ty as ty
 use Rattle.ir_values.specs.declared.types.Ty.{Ty}
 use Rattle.ir_values.specs.declared.modules.Var.{Var}
 use Rattle.ir_values.specs.declared.modules.Jump.{Jump}
-use Rattle.ir_values.specs.Layout.{Layout, layout, IsLaidOut}
+use Rattle.ir_numbers.specs.Layout.{Layout, layout, IsLaidOut}
 use Rattle.ir_memories.specs.declared.stated.Room.{Room}
 use Rattle.ir_memories.specs.Placement.{Placeable, placeables, of_variable}
 use Rattle.ir_memories.specs.Stated.{room_of, rooms, end_from, IsPlaceable, HaveNames}

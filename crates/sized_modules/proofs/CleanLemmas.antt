@@ -13,7 +13,7 @@ use Rattle.ir_values.specs.declared.units.Unit.{Unit as TheUnit}
 use Rattle.ir_values.specs.declared.units.Attach.{Attach}
 use Rattle.ir_values.specs.declared.units.Form.{Form}
 use Rattle.ir_values.specs.declared.units.Form.TheVariants.{TypeForm, VariableForm}
-use Rattle.ir_values.specs.Layout.{Layout, layout, IsLaidOut}
+use Rattle.ir_numbers.specs.Layout.{Layout, layout, IsLaidOut}
 use Rattle.check_names.specs.declared.spaces.Space.TheVariants.{Types}
 use Rattle.check_names.specs.Flaws.{◌then◌}
 use Rattle.check_names.specs.Spaces.{first_definition}

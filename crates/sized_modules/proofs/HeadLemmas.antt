@@ -8,7 +8,7 @@ use Rattle.ir_values.specs.declared.types.Ty.TheOpen.{Ty-F}
 use Rattle.check_names.specs.declared.spaces.Space.TheVariants.{Types}
 use Rattle.check_names.specs.Flaws.{when, worded_when}
 use Rattle.check_names.specs.Spaces.{sign, defines, missing_flaw}
-use Rattle.check_names.specs.Words.{named_word}
+use Rattle.ir_names.specs.Words.{named_word}
 use Rattle.check_names.specs.Reserved.{reserved_flaw, use_flaw}
 use Rattle.check_types.specs.Left.{is_metadata, is_wide_array, left_word, left_flaw}
 use Rattle.check_types.specs.Named.{named_type, names_in, names_step, each_name, ends, is_endless, is_opaque}

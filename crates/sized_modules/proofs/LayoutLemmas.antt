@@ -7,8 +7,8 @@ use Rattle.ir_values.specs.declared.types.Ty as ty
 use Rattle.ir_values.specs.declared.types.Ty.{Ty, out-Ty, fold_out-Ty, fold-roll-Ty, map-Ty}
 use Rattle.ir_values.specs.declared.types.Ty.TheOpen.{Ty-F}
 use Rattle.ir_values.specs.declared.types.Ty.TheVariants.{rolls-Struct, rolls-Array}
-use Rattle.ir_values.specs.Layout.{Layout, width_bytes, layout, layout_step, end_of, greatest_align, struct_layout}
-use Rattle.ir_values.specs.Layout as layouts
+use Rattle.ir_numbers.specs.Layout.{Layout, width_bytes, layout, layout_step, end_of, greatest_align, struct_layout}
+use Rattle.ir_numbers.specs.Layout as layouts
 use Rattle.check_names.specs.Flaws.{each, when}
 use Rattle.check_types.specs.Heads.{head}
 use Rattle.check_types.specs.Measures.{Measure, measure_of, single, parts_measure, measure}

@@ -7,7 +7,7 @@ use Rattle.std.proofs.lemmas.List.Elements.{All-nil, All-cons, All-head, All-tai
 use Rattle.std.proofs.lemmas.Fmt.{digits_decimal, decimal_nonempty}
 use Rattle.std.proofs.lemmas.Slice.Eq.{bytes_eq-Decides}
 use Rattle.ir_meaning.specs.Sequence.{◌>>=◌}
-use Rattle.ir_print.specs.Names.{is_digit}
+use Rattle.ir_names.specs.Names.{is_digit}
 use Rattle.source_runs.specs.Words.{number_of, greatest, answer_limit, with_byte, words_of, answers_behind, few}
 use Rattle.source_runs.specs.Laws.{answers_word, AreAnswers, AnswersAreRead, OnlyAnswersAreRead}
 use Rattle.source_runs.proofs.WordLemmas.{first_word}

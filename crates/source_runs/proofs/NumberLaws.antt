@@ -4,7 +4,7 @@ use Rattle.std.specs.List.{list_all, fold}
 use Rattle.std.proofs.lemmas.Bool.Decides.{nat_tests}
 use Rattle.std.proofs.lemmas.Str.Parse.{IsDigitsTest, FoldsDigits, IsNumeralModel, numerals_by_fold}
 use Rattle.std.proofs.lemmas.Fmt.{digits_decimal, digits_value-decimal, decimal-digits_value, decimal_nonempty, first_decimal, decimal_digit}
-use Rattle.ir_print.specs.Names.{is_digit, is_decimal, value_of}
+use Rattle.ir_names.specs.Names.{is_digit, is_decimal, value_of}
 use Rattle.source_runs.specs.Laws.{DecimalsAreRead, OnlyDecimalsAreRead}
 
 digits_told : IsDigitsTest (λ ds. list_all is_digit ds ≡ true)

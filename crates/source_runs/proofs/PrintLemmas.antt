@@ -7,7 +7,7 @@ use Rattle.ltt_base.specs.Outside.{Took}
 use Rattle.ltt_base.proofs.CallerLemmas.{Took-then, TookPart-whole, TookPart-then, TookPart-more, Rose-within}
 use Rattle.ir_print.specs.declared.printing.PrintFault.{PrintFault}
 use Rattle.ir_print.specs.Printing.{Prints}
-use Rattle.ir_print.proofs.ListLemmas.{flat_map-last}
+use Rattle.ir_names.proofs.FlatLemmas.{flat_map-last}
 
 -- a text was printed whole
 pub prints-whole : {a b : Option (List ℕ)} {i j : ℕ} {text : List ℕ} → Took a b text → i ≤ j → Prints a b i j text (Ok tt)

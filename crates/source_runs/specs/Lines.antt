@@ -8,7 +8,7 @@ use Rattle.ir_meaning.specs.declared.states.Event.{Event}
 use Rattle.ir_meaning.specs.declared.states.Status.{Status}
 use Rattle.ir_meaning.specs.declared.states.Status.TheVariants.{Running, Returned, Trapped, Starved, Undefined}
 use Rattle.ir_meaning.specs.declared.states.Outcome.{Outcome}
-use Rattle.ir_print.specs.Names.{name_text}
+use Rattle.ir_names.specs.Names.{name_text}
 use Rattle.ir_print.specs.Pieces.{commas}
 
 -- `0` for null alone; where any other pointer leads isn't told

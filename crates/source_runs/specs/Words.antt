@@ -1,6 +1,6 @@
 -- Numbers, and lists of numbers, as the words of a call write them.
 use Rattle.std.specs.Prelude.{ℕ, suc, ◌+◌, ◌-◌, ◌^◌, ◌&&◌, nat_eq, nat_le, if◌then◌else◌, List, [], ◌∷◌, ◌++◌, length, codes, bytes_eq, Option, Some, None, Bool, false}
-use Rattle.ir_print.specs.Names.{is_decimal, value_of}
+use Rattle.ir_names.specs.Names.{is_decimal, value_of}
 use Rattle.ir_meaning.specs.Sequence.{◌>>=◌}
 
 -- the number that a word writes in decimal, without sign and leading zeros, if it isn't more than `most`

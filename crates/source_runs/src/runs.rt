@@ -9,7 +9,8 @@ ghost use Rattle.source_runs.specs.Runs.{IsSource, source_run};
 
 use ir_meaning::{Outcome, run};
 use ir_memories::{SPtr, Symbolic};
-use ir_values::{Module, is_laid_out};
+use ir_numbers::is_laid_out;
+use ir_values::Module;
 use ltt_base::{Fault, Memory};
 use std::alloc::Global;
 use type_metadata::{Object, Types, collect};

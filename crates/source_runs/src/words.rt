@@ -1,31 +1,16 @@
 // Numbers, and lists of numbers, as the words of a call write them.
-ghost use Rattle.std.specs.Prelude.{◌≡◌, ◌≤◌, ◌^◌, [], length, take, min, is_some, IfOk};
-ghost use Rattle.ir_print.specs.Names.{value_of};
+ghost use Rattle.std.specs.Prelude.{◌≡◌, ◌≤◌, [], length, take, is_some, IfOk};
 ghost use Rattle.source_runs.specs.Words as spec;
 
-use check_names::is_decimal;
+use ir_names::{is_decimal, value_of};
 use ltt_base::{List, Memory};
 use std::alloc::Global;
-
-/// The number from which on digits aren't counted.
-const LIMIT: u128 = 0x1_0000_0000_0000_0000;
 
 /// The most steps of a run.
 const STEPS: u64 = 10_000_000;
 
 /// The most answers.
 const ANSWERS: usize = 10_000;
-
-/// The number that digits make, or 2^64 where it is more.
-fn value(digits: &[u8]) -> u128
-    ensures { result ≡ min (value_of digits.now) (2 ^ 64) }
-{
-    let mut value = 0;
-    for digit in digits {
-        value = LIMIT.min(value * 10 + u128::from(digit.saturating_sub(b'0')));
-    }
-    value
-}
 
 /// The number that a word writes in decimal, without sign and leading zeros. `None`: it writes none, or one above `most`.
 pub fn number_of(word: &[u8], most: u64) -> Option<u64>
@@ -34,7 +19,7 @@ pub fn number_of(word: &[u8], most: u64) -> Option<u64>
     if !is_decimal(word) {
         return None;
     }
-    let value = value(word);
+    let value = value_of(word);
     if value <= u128::from(most) {
         Some(value as u64)
     } else {

@@ -19,7 +19,7 @@ use Rattle.thin_files.specs.declared.thin.Thin.{Thin}
 use Rattle.thin_files.specs.declared.thin.Variable.{Variable}
 use Rattle.thin_files.specs.declared.thin.Second.{Second}
 use Rattle.thin_files.specs.Thin.{AreDistinct, IsSecondAllowed, IsAllowed, module_of, variable_of, function_of, block_of, tested_block, address_of, second_block, second_function, second_functions, words_type}
-use Rattle.ir_values.specs.Layout.{Layout}
+use Rattle.ir_numbers.specs.Layout.{Layout}
 use Rattle.type_metadata.specs.Sizes.{size_of}
 use Rattle.type_metadata.specs.Carriers.{Carries, extent_of}
 use Rattle.test_lowering.specs.Rewriting.{Home, test_shape, rewritten, combined, combined_from, combined_type, group_name, members_of, pad, rewritten_operand, rewritten_inst}

@@ -7,7 +7,7 @@ use Rattle.ir_values.specs.declared.types.Ty as ty
 use Rattle.ir_values.specs.declared.modules.Var.{Var}
 use Rattle.thin_files.specs.declared.thin.Variable.{Variable}
 use Rattle.thin_files.specs.Thin.{module_of, variable_of, words_type}
-use Rattle.ir_values.specs.Layout.{Layout}
+use Rattle.ir_numbers.specs.Layout.{Layout}
 use Rattle.type_metadata.specs.Sizes.{size_of}
 use Rattle.test_lowering.specs.Rewriting.{rewritten, group_name, gap_of, gap_types, doubled_to}
 use Rattle.ir_memories.specs.Placement.{Placeable, AreApart, placeables, of_variable}

@@ -16,7 +16,7 @@ use Rattle.thin_files.specs.declared.thin.Thin.{Thin}
 use Rattle.thin_files.specs.declared.thin.Variable.{Variable}
 use Rattle.thin_files.specs.declared.thin.Second.{Second}
 use Rattle.thin_files.specs.Thin.{IsAllowed, CarriesAt, module_of, variable_of, function_of, tested_block, address_of, second_function, words_type}
-use Rattle.ir_values.specs.Layout.{Layout}
+use Rattle.ir_numbers.specs.Layout.{Layout}
 use Rattle.test_lowering.specs.Rewriting.{Home, doubled_to, pad, gap_of, gap_types, combined, combined_from, group_name, no_place, members_of, test_shape, object_from, rewritten_operand, rewritten_inst, rewritten_func}
 use Rattle.test_lowering.proofs.SizeLaws.{size-words, pad-reaches}
 use Rattle.test_lowering.proofs.ExactLaws.{Carrier, member_of}

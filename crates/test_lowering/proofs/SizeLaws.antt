@@ -10,7 +10,7 @@ use Rattle.ir_values.specs.declared.types.Ty.{Ty, fold-roll-Ty}
 use Rattle.ir_values.specs.declared.types.Ty.TheOpen.{Ty-F}
 use Rattle.ir_values.specs.declared.types.Ty.TheVariants.{rolls-Struct, rolls-Array, rolls-Int}
 use Rattle.test_lowering.specs.Rewriting.{doubled_to, power_above, pad, gap_types}
-use Rattle.ir_values.specs.Layout.{Layout, layout, layout_step, within}
+use Rattle.ir_numbers.specs.Layout.{Layout, layout, layout_step, within}
 use Rattle.type_metadata.specs.Sizes.{size_of}
 
 twice : (doublings p n : ℕ) → n ≤ p * 2 ^ suc doublings → n ≤ 2 * p * 2 ^ doublings

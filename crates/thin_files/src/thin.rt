@@ -22,7 +22,7 @@ pub use source::source_module;
 ///
 /// `count` is the number of its 64-bit parts, `node` the digits of its node's number, and `offset` and
 /// `id` are that node's offset, in bytes, and type identifier.
-#[derive(Debug, Drop)]
+#[derive(Drop)]
 pub struct Variable {
     pub place: Place,
     pub name: Text,
@@ -33,7 +33,7 @@ pub struct Variable {
 }
 
 /// A type node of a thin file: the digits of its number, its offset and its type identifier.
-#[derive(Debug, Drop)]
+#[derive(Drop)]
 pub struct Node {
     pub number: Text,
     pub offset: u64,
@@ -44,7 +44,7 @@ pub struct Node {
 ///
 /// It tests the address of the variable `object`, or the address `offset` bytes behind it where one is
 /// written, for the identifier `tested` into `register`, which it returns.
-#[derive(Debug, Drop)]
+#[derive(Drop)]
 pub struct Second {
     pub place: Place,
     pub name: Text,
@@ -73,7 +73,7 @@ impl Second {
 ///
 /// The first function tests its parameter `pointer` for the identifier `tested` into `register`, which
 /// it returns.
-#[derive(Debug, Drop)]
+#[derive(Drop)]
 pub struct Thin {
     pub variables: List<Variable>,
     pub place: Place,

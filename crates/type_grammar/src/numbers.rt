@@ -3,7 +3,7 @@ ghost use Rattle.std.specs.Str.Parse.{digits_value};
 ghost use Rattle.std.specs.Char.{digit_value, is_ascii_digit};
 ghost use Rattle.std.specs.List.{list_all};
 ghost use Rattle.ir_lex.specs.Names as names;
-ghost use Rattle.ir_values.specs.Numbers.{bits};
+ghost use Rattle.ir_numbers.specs.Numbers.{bits};
 ghost use Rattle.type_grammar.specs.Left.{offset_at, offset_of};
 ghost use Rattle.type_grammar.specs.Numbers as spec;
 

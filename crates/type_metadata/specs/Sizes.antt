@@ -1,7 +1,7 @@
 -- The size and the alignment of a type, in bytes.
 use Rattle.std.specs.Prelude.{ℕ}
 use Rattle.ir_values.specs.declared.types.Ty.{Ty}
-use Rattle.ir_values.specs.Layout.{layout}
+use Rattle.ir_numbers.specs.Layout.{layout}
 
 abbrev pub size_of : Ty → ℕ
 size_of ty = (layout ty).size

@@ -1,9 +1,10 @@
 ghost use Rattle.std.specs.Prelude.{◌≡◌, nat_le, ◌≤◌, ◌^◌};
 ghost use Rattle.std.specs.List.{list_any};
-ghost use Rattle.ir_values.specs.Layout.{IsLaidOut};
+ghost use Rattle.ir_numbers.specs.Layout.{IsLaidOut};
 ghost use Rattle.type_metadata.specs.Carriers as carriers;
 
-use ir_values::{Entry, Var, size_of};
+use ir_numbers::size_of;
+use ir_values::{Entry, Var};
 
 /// The bytes of a variable, and one more where an entry stands at its end. That of a function is 1.
 pub fn extent_of(variable: &Var) -> u64

@@ -8,7 +8,7 @@ use ltt_base::{Copied, List, Memory, Text};
 use std::alloc::Global;
 
 /// A variable or a function of a list of modules, as far as linking and type metadata see it.
-#[derive(Debug, Drop)]
+#[derive(Drop)]
 pub struct Item {
     pub object: Object,
     pub name: Text,

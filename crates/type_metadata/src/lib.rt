@@ -10,8 +10,6 @@ mod marks;
 mod names;
 mod objects;
 mod places;
-#[cfg(test)]
-mod tests;
 mod types;
 
 pub use denoting::denotes;

@@ -15,7 +15,7 @@ use std::marker::Model;
 /// The items of a list of modules, and which of them is the first of each name and of each object.
 ///
 /// A look-up takes time that grows with the logarithm of the number of items, and no memory.
-#[derive(Debug, Drop)]
+#[derive(Drop)]
 pub struct Listing {
     items: List<Item>,
     own: OwnNames,

@@ -10,7 +10,7 @@ use ltt_base::{Copied, List, Memory};
 use std::alloc::Global;
 
 /// An entry of a definition that is kept: the identifier, and what carries it.
-#[derive(Debug, Drop)]
+#[derive(Drop)]
 pub struct Mark {
     pub id: TypeId,
     pub carrier: Carrier,

@@ -6,7 +6,7 @@ use ltt_base::Same;
 
 /// A variable or a function of a list of modules: the number of its file, from 1, and its number among the
 /// variables or the functions of that module, from 0.
-#[derive(Debug, Clone, Copy)]
+#[derive(Clone, Copy)]
 pub struct Object {
     pub file: u32,
     pub function: bool,
@@ -22,7 +22,7 @@ impl Same for Object {
 /// An object, and the offset in bytes at which it carries an identifier.
 ///
 /// Source: LLVM, "Type Metadata".
-#[derive(Debug, Clone, Copy)]
+#[derive(Clone, Copy)]
 pub struct Carrier {
     pub object: Object,
     pub offset: u64,
@@ -35,7 +35,7 @@ impl Same for Carrier {
 }
 
 /// What a name denotes: an object that a module defines, or one from outside.
-#[derive(Debug, Clone, Copy)]
+#[derive(Clone, Copy)]
 pub enum Denoted {
     Item(Object),
     External,

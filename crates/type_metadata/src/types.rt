@@ -16,7 +16,7 @@ use std::alloc::Global;
 
 /// The type identifiers of a list of modules, in order of first appearance among the entries of the definitions
 /// in object order, and beside each its carriers, in object order and each pair once.
-#[derive(Debug, Drop)]
+#[derive(Drop)]
 pub struct Types {
     pub ids: List<TypeId>,
     pub carriers: List<List<Carrier>>,

@@ -1,5 +1,5 @@
 use Rattle.std.proofs.Common.{◌≡◌, ◌++◌, drop, map}
-use Rattle.check_instructions.specs.Cases.{case_number}
+use Rattle.kept_parts.specs.CaseNumbers.{case_number}
 use Rattle.check_instructions.proofs.cases.case_numbers.Given as goal
 
 abbrev pub invariant-loop-case : goal.invariant-loop-case

@@ -1,7 +1,7 @@
 use Rattle.std.proofs.Common.{sym, ap, ◌∙◌, ◌++◌, codes}
 use Rattle.ir_print.specs.Pieces.{commas}
 use Rattle.ir_print.specs.Constants.{Printed, const_printed, typed_const_text}
-use Rattle.ir_print.proofs.PutLemmas.{puts-then, puts-as}
+use Rattle.ir_names.proofs.PutLemmas.{puts-then, puts-as}
 use Rattle.ir_print.proofs.ListLemmas.{next-comma, next-behind, next-index, printed-map, printed-behind, printed-gep}
 use Rattle.ir_print.proofs.constants.+constants.Goals as goal
 

@@ -1,4 +1,4 @@
-use Rattle.ir_print.proofs.PutLemmas.{puts-then}
+use Rattle.ir_names.proofs.PutLemmas.{puts-then}
 use Rattle.ir_print.proofs.constants.put_register.Goals as goal
 
 pub returns : goal.returns

@@ -1,5 +1,5 @@
 use Rattle.std.proofs.Common.{◌≡◌}
-use Rattle.ir_print.proofs.PutLemmas.{puts-then}
+use Rattle.ir_names.proofs.PutLemmas.{puts-then}
 use Rattle.ir_print.proofs.instructions.put_coded_trap.Goals as goal
 
 pub returns : goal.returns

@@ -1,5 +1,5 @@
 use Rattle.ir_print.specs.Instructions.{inst_pieces}
-use Rattle.ir_print.proofs.PutLemmas.{puts-then}
+use Rattle.ir_names.proofs.PutLemmas.{puts-then}
 use Rattle.ir_print.proofs.instructions.put_load.Goals as goal
 
 pub returns : goal.returns

@@ -1,4 +1,4 @@
-use Rattle.ir_print.proofs.PutLemmas.{puts-then}
+use Rattle.ir_names.proofs.PutLemmas.{puts-then}
 use Rattle.ir_print.proofs.items.put_align.Goals as goal
 
 pub returns : goal.returns

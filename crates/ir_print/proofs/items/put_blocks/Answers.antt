@@ -1,7 +1,6 @@
 use Rattle.std.proofs.Common.{sym}
-use Rattle.ir_print.proofs.PutLemmas.{puts-then}
 use Rattle.ir_print.specs.Items.{block_text}
-use Rattle.ir_print.proofs.ListLemmas.{next-flat}
+use Rattle.ir_names.proofs.FlatLemmas.{next-flat}
 use Rattle.ir_print.proofs.items.put_blocks.Goals as goal
 
 pub loop-block-preserved : goal.loop-block-preserved

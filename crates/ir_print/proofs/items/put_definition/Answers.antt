@@ -1,5 +1,5 @@
 use Rattle.ir_print.specs.Items.{define_pieces}
-use Rattle.ir_print.proofs.PutLemmas.{puts-then}
+use Rattle.ir_names.proofs.PutLemmas.{puts-then}
 use Rattle.ir_print.proofs.items.put_definition.Goals as goal
 
 pub returns : goal.returns

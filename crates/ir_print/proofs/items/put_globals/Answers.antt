@@ -1,7 +1,6 @@
 use Rattle.std.proofs.Common.{sym}
-use Rattle.ir_print.proofs.PutLemmas.{puts-then}
-use Rattle.ir_print.specs.Pieces.{commas}
-use Rattle.ir_print.specs.Names.{global_text}
+use Rattle.ir_names.proofs.PutLemmas.{puts-then}
+use Rattle.ir_names.specs.Names.{global_text}
 use Rattle.ir_print.proofs.ListLemmas.{next-comma}
 use Rattle.ir_print.proofs.items.put_globals.Goals as goal
 

@@ -1,8 +1,7 @@
 use Rattle.std.proofs.Common.{take, map}
-use Rattle.std.specs.List.{flat_map}
 use Rattle.ir_print.specs.Pieces.{commas}
-use Rattle.ir_print.specs.Names.{global_text}
-use Rattle.ir_print.specs.Puts.{Puts}
+use Rattle.ir_names.specs.Names.{global_text}
+use Rattle.ir_names.specs.Puts.{Puts}
 use Rattle.ir_print.proofs.items.put_globals.Given as goal
 
 abbrev pub invariant-loop-at : goal.invariant-loop-at

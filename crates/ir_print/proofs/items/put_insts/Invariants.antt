@@ -1,7 +1,7 @@
-use Rattle.std.proofs.Common.{take, map}
+use Rattle.std.proofs.Common.{take}
 use Rattle.std.specs.List.{flat_map}
 use Rattle.ir_print.specs.Items.{line_text}
-use Rattle.ir_print.specs.Puts.{Puts}
+use Rattle.ir_names.specs.Puts.{Puts}
 use Rattle.ir_print.proofs.items.put_insts.Given as goal
 
 abbrev pub invariant-loop-inst : goal.invariant-loop-inst

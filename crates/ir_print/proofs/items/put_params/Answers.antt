@@ -1,7 +1,5 @@
 use Rattle.std.proofs.Common.{sym}
-use Rattle.ir_print.proofs.PutLemmas.{puts-then}
-use Rattle.ir_print.specs.Pieces.{commas}
-use Rattle.ir_print.specs.Types.{behind_types}
+use Rattle.ir_names.proofs.PutLemmas.{puts-then}
 use Rattle.ir_print.specs.Items.{param_text}
 use Rattle.ir_print.proofs.ListLemmas.{next-behind}
 use Rattle.ir_print.proofs.items.put_params.Goals as goal

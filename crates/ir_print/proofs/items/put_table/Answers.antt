@@ -1,5 +1,5 @@
 use Rattle.ir_print.specs.Items.{table_pieces}
-use Rattle.ir_print.proofs.PutLemmas.{puts-then}
+use Rattle.ir_names.proofs.PutLemmas.{puts-then}
 use Rattle.ir_print.proofs.items.put_table.Goals as goal
 
 pub returns : goal.returns

@@ -1,5 +1,5 @@
 use Rattle.ir_print.specs.Items.{var_pieces}
-use Rattle.ir_print.proofs.PutLemmas.{puts-then}
+use Rattle.ir_names.proofs.PutLemmas.{puts-then}
 use Rattle.ir_print.proofs.items.put_var.Goals as goal
 
 pub returns : goal.returns

@@ -1,9 +1,8 @@
-use Rattle.std.proofs.Common.{take, map}
-use Rattle.std.specs.List.{flat_map}
+use Rattle.std.proofs.Common.{take}
 use Rattle.ir_print.specs.Pieces.{commas}
 use Rattle.ir_print.specs.Types.{behind_types}
 use Rattle.ir_print.specs.Constants.{typed_text}
-use Rattle.ir_print.specs.Puts.{Puts}
+use Rattle.ir_names.specs.Puts.{Puts}
 use Rattle.ir_print.proofs.lists.put_args.Given as goal
 
 abbrev pub invariant-loop-at : goal.invariant-loop-at

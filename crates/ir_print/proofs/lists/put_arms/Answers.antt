@@ -1,6 +1,5 @@
 use Rattle.std.proofs.Common.{sym}
-use Rattle.ir_print.proofs.PutLemmas.{puts-then}
-use Rattle.ir_print.specs.Pieces.{commas}
+use Rattle.ir_names.proofs.PutLemmas.{puts-then}
 use Rattle.ir_print.specs.Instructions.{arm_text}
 use Rattle.ir_print.proofs.ListLemmas.{next-comma}
 use Rattle.ir_print.proofs.lists.put_arms.Goals as goal

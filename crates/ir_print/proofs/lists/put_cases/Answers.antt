@@ -1,6 +1,5 @@
 use Rattle.std.proofs.Common.{sym}
-use Rattle.ir_print.proofs.PutLemmas.{puts-then}
-use Rattle.ir_print.specs.Pieces.{spaces}
+use Rattle.ir_names.proofs.PutLemmas.{puts-then}
 use Rattle.ir_print.specs.Instructions.{case_text}
 use Rattle.ir_print.proofs.ListLemmas.{next-space}
 use Rattle.ir_print.proofs.lists.put_cases.Goals as goal

@@ -1,7 +1,6 @@
 use Rattle.std.proofs.Common.{sym}
-use Rattle.ir_print.proofs.PutLemmas.{puts-then}
 use Rattle.ir_print.specs.Instructions.{index_text}
-use Rattle.ir_print.proofs.ListLemmas.{next-flat}
+use Rattle.ir_names.proofs.FlatLemmas.{next-flat}
 use Rattle.ir_print.proofs.lists.put_indices.Goals as goal
 
 pub loop-index-preserved : goal.loop-index-preserved

@@ -1,7 +1,7 @@
-use Rattle.std.proofs.Common.{take, map}
+use Rattle.std.proofs.Common.{take}
 use Rattle.std.specs.List.{flat_map}
 use Rattle.ir_print.specs.Instructions.{index_text}
-use Rattle.ir_print.specs.Puts.{Puts}
+use Rattle.ir_names.specs.Puts.{Puts}
 use Rattle.ir_print.proofs.lists.put_indices.Given as goal
 
 abbrev pub invariant-loop-index : goal.invariant-loop-index

@@ -1,4 +1,4 @@
-use Rattle.ir_print.proofs.PutLemmas.{puts-then}
+use Rattle.ir_names.proofs.PutLemmas.{puts-then}
 use Rattle.ir_print.proofs.parts.put_id_node.Goals as goal
 
 pub returns : goal.returns

@@ -1,6 +1,5 @@
 use Rattle.std.proofs.Common.{sym}
-use Rattle.ir_print.proofs.PutLemmas.{puts-then}
-use Rattle.ir_print.proofs.ListLemmas.{next-flat}
+use Rattle.ir_names.proofs.FlatLemmas.{next-flat}
 use Rattle.ir_print.proofs.printing.put_items.Goals as goal
 
 pub loop-item-preserved : goal.loop-item-preserved

@@ -1,6 +1,6 @@
-use Rattle.std.proofs.Common.{take, map}
+use Rattle.std.proofs.Common.{take}
 use Rattle.std.specs.List.{flat_map}
-use Rattle.ir_print.specs.Puts.{Puts}
+use Rattle.ir_names.specs.Puts.{Puts}
 use Rattle.ir_print.proofs.printing.put_items.Given as goal
 
 abbrev pub invariant-loop-item : goal.invariant-loop-item

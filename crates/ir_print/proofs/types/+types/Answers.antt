@@ -1,6 +1,6 @@
 use Rattle.std.proofs.Common.{sym}
 use Rattle.ir_print.specs.Types.{ty_text}
-use Rattle.ir_print.proofs.PutLemmas.{puts-then}
+use Rattle.ir_names.proofs.PutLemmas.{puts-then}
 use Rattle.ir_print.proofs.ListLemmas.{next-comma}
 use Rattle.ir_print.proofs.types.+types.Goals as goal
 

@@ -1,6 +1,6 @@
 use Rattle.std.proofs.Common.{map, take}
 use Rattle.ir_print.specs.Pieces.{commas}
-use Rattle.ir_print.specs.Puts.{Puts}
+use Rattle.ir_names.specs.Puts.{Puts}
 use Rattle.ir_print.specs.Types as Spec
 use Rattle.ir_print.proofs.types.+types.Given as goal
 

@@ -1,5 +1,5 @@
 use Rattle.std.proofs.Common.{refl}
-use Rattle.ir_print.proofs.PutLemmas.{puts-sent}
+use Rattle.ir_names.proofs.PutLemmas.{puts-sent}
 use Rattle.ir_print.proofs.output.Output.flush.Goals as goal
 
 pub returns-in-Ok-clause-sent : goal.returns-in-Ok-clause-sent

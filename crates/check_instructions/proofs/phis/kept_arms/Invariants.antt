@@ -1,6 +1,0 @@
-use Rattle.std.proofs.Common.{◌≡◌, ◌++◌, drop}
-use Rattle.check_instructions.specs.Phis.{kept_arms}
-use Rattle.check_instructions.proofs.phis.kept_arms.Given as goal
-
-abbrev pub invariant-loop-arm : goal.invariant-loop-arm
-invariant-loop-arm l = l.kept ++ kept_arms l.types.units l.ty (drop l.arm-index l.arms) ≡ kept_arms l.types.units l.ty l.arms

@@ -1,5 +1,0 @@
-use Rattle.std.proofs.Common.{refl, arith}
-use Rattle.global_layout.proofs.tests.word.Goals as goal
-
-pub returns : goal.returns
-returns c = record { extent = omega arith; align = (3, omega arith, refl) }

@@ -1,0 +1,7 @@
+use Rattle.ir_print.specs.Instructions.{inst_pieces}
+use Rattle.ir_names.proofs.PutLemmas.{puts-then}
+use Rattle.ir_print.proofs.instructions.put_public_test.Goals as goal
+
+pub returns : goal.returns
+unfolding inst_pieces
+returns g c = puts-then c.put_local.ensures (puts-then c.put.ensures (puts-then c.put_typed.ensures (puts-then c.put-2.ensures (puts-then c.put_id.ensures c.put-3.ensures))))

@@ -1,5 +1,0 @@
-use Rattle.ir_print.proofs.PutLemmas.{puts-then}
-use Rattle.ir_print.proofs.numbers.put_negative.Goals as goal
-
-pub returns : goal.returns
-returns g c = puts-then c.put.ensures c.put_decimal.ensures

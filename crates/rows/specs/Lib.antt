@@ -1,1 +1,0 @@
--- Nothing: the crate holds tests alone.

@@ -1,8 +1,0 @@
-//! The program `ltt`, run on a file that is refused.
-#![tactic(auto)]
-
-use std::process::ExitCode;
-
-fn main(rt: HostRuntime) -> ExitCode {
-    ltt_machine::run(rt)
-}
