@@ -1,0 +1,2 @@
+mod UnitLaws
+mod DueLaws

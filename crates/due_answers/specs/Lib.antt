@@ -1,0 +1,2 @@
+-- what the public clauses rest on
+pub mod Laws
