@@ -2,7 +2,6 @@
 //! come out.
 #![tactic(auto)]
 
-mod computing;
 mod cutting;
 mod forms;
 mod layouts;

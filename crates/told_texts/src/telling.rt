@@ -1,6 +1,6 @@
 // What is told of a text by a call's words.
 use crate::making::nested;
-use crate::{computing, cutting, layouts, passing, reading, sets, sizes, tokens, units};
+use crate::{cutting, layouts, passing, reading, sets, sizes, tokens, units};
 use ltt_base::{Memory, Text};
 use std::alloc::Global;
 
@@ -41,9 +41,6 @@ fn tell_of(alloc: Global, out: &mut Text, call: &str, text: &[u8]) -> Result<(),
         "set" => sets::tell(alloc, out, rest, text),
         "rotated" => sets::tell_rotated(out, rest),
         "lanes" => sets::tell_lanes(alloc, out, text),
-        "binary" => computing::tell_binary(alloc, out, rest),
-        "compared" => computing::tell_compared(out, rest),
-        "cast" => computing::tell_cast(alloc, out, rest),
         "layout" => layouts::tell(alloc, out, rest, text),
         _ => out.extend(b"no such call"),
     }
